@@ -24,7 +24,7 @@ use Rattle.cs_client.specs.Objects.{believed}
 use Rattle.cs_client.specs.Dummies.{serials_in, least_named, dummy_believed, with_dummy, dummies_for}
 use Rattle.cs_client.specs.Calls.{objects_with, objects_for, call_with, ready, ran_with}
 use Rattle.cs_client.specs.Sessions.{has_input, session_without_dummies, is_bare, bare_shards}
-use Rattle.cs_client.specs.Phases.{Phase, Asking, Wanting, Submitting, Idle, provided, wanting, after_method, moved, phase}
+use Rattle.cs_client.specs.Phases.{Phase, Asking, Wanting, Submitting, Idle, provided, wanting, after_method, moved, first_phase, phase}
 use Rattle.cs_client.specs.Knowing.{says_decided, has_decided, knows}
 use Rattle.cs_client.specs.Sayings.{again, at_tick, on_entering, says_at, out_of, outs_of_sayings}
 use Rattle.cs_client.specs.Kept.{WordsTold, told_by_inputs, asked_on, objects_believed}
@@ -125,7 +125,7 @@ decides-nothing (Submitting x) accepted (Some m) h = absurd h
 decides-nothing Idle accepted (Some m) h = refl
 
 none-decided : (e : Errand) (accepted : Bool) (past : List ClientInput) (input : ClientInput) (node : NodeId) → IsBefore (phase e past) → has_decided e accepted (input ∷ past) node ≡ false
-none-decided e accepted [] input node h = ap (λ t. t || false) (decides-nothing Asking accepted (said_from e.keys node input) h)
+none-decided e accepted [] input node h = ap (λ t. t || false) (decides-nothing (first_phase e.session) accepted (said_from e.keys node input) h)
 none-decided e accepted (last ∷ past) input node h =
     ap (λ t. t || has_decided e accepted (last ∷ past) node) (decides-nothing (phase e (last ∷ past)) accepted (said_from e.keys node input) h)
     ∙ none-decided e accepted past last node (before-moved e (dummy_believed e.config e.keys (last ∷ past)) (ready e (last ∷ past)) (phase e past) h)
@@ -148,6 +148,25 @@ fresh-heard e past input (kept.Submitting s) h fresh = record {
         shard_is = one.shard_is;
         accepted = blank-kept e true past input shard v.accepted h one.accepted;
         aborted = blank-kept e false past input shard v.aborted h one.aborted;
+      };
+}
+
+-- before the first input nothing is decided either
+blank-begun : (e : Errand) (accepted : Bool) (shard : ℕ) (tally : Marks) → IsBlank e.config.f tally → KeepsTally e accepted [] shard tally
+blank-begun e accepted shard tally blank = record { members = blank.members; marks = λ n less. blank.unmarked n }
+
+pub first-heard : (e : Errand) (new : Kept) → IsFresh e.config new → KeepsHeard e [] new
+first-heard e kept.Asking fresh = tt
+first-heard e (kept.Wanting wanted) fresh = tt
+first-heard e kept.Idle fresh = tt
+first-heard e (kept.Submitting s) fresh = record {
+  many = fresh.many;
+  each = λ k shard v gs gv.
+      let one = fresh.each k shard v gs gv in
+      record {
+        shard_is = one.shard_is;
+        accepted = blank-begun e true shard v.accepted one.accepted;
+        aborted = blank-begun e false shard v.aborted one.aborted;
       };
 }
 

@@ -151,7 +151,7 @@ unheard-told e input past none =
     (λ name i less. ap (λ s. option_and_then (told_in name) (from_node (node_at (shard_of_name e.config name) i) s)) none)
     (λ shard low i less. ap (λ s. option_and_then (dummy_word_in shard) (from_node (node_at shard i) s)) none)
 
-name-low : (config : Config) (name : List ℕ) → shard_of_name config name < config.shards
+pub name-low : (config : Config) (name : List ℕ) → shard_of_name config name < config.shards
 name-low config name = let some : 0 < config.shards = config.some_shard in mod_below (from_be_bytes w32 (drop 28 name)) config.shards some
 
 -- nor does who isn't a node of the configuration

@@ -50,7 +50,12 @@ moved e dummy call (Wanting x) = wanting e.config dummy x
 moved e dummy call (Submitting x) = Submitting x
 moved e dummy call Idle = Idle
 
+-- a session that was made before is submitted; else all begins with the objects of the call
+abbrev pub first_phase : Option Session → Phase
+first_phase None = Asking
+first_phase (Some x) = Submitting x
+
 abbrev pub phase : Errand → List ClientInput → Phase
-phase e [] = Asking
+phase e [] = first_phase e.session
 phase e (input ∷ past) =
     moved e (dummy_believed e.config e.keys (input ∷ past)) (ready e (input ∷ past)) (phase e past)

@@ -1,7 +1,8 @@
 -- For which inputs a client stands, and what a step makes.
-use Rattle.std.specs.Prelude.{◌≡◌, List, ◌∷◌, Some, Result, Ok, Err}
+use Rattle.std.specs.Prelude.{◌≡◌, ◌+◌, List, ◌∷◌, Option, Some, None, Result, Ok, Err}
 use Rattle.cs_config.specs.declared.site.Site.{Site}
 use Rattle.cs_config.specs.declared.call.CallFile.{CallFile}
+use Rattle.cs_tx_types.specs.declared.session.Session.{Session}
 use Rattle.cs_wire.specs.declared.input.Out.{Out}
 use Rattle.cs_wire.specs.declared.keys.Keys.{Keys}
 use Rattle.cs_approve.specs.Books.{Contracts}
@@ -19,9 +20,17 @@ use Rattle.cs_client.specs.Sayings.{says_at, outs_of_sayings}
 use Rattle.cs_client.specs.Seen.{Client, IsApproved}
 use Rattle.cs_client.specs.Hearing.{Keeps}
 
--- what a client is to do that makes this call at a site
+-- what a client is to do that makes this call at a site, or submits the session of it that was made before
+abbrev pub errand_with : Site → Keys → Contracts → CallFile → Option Session → Errand
+errand_with site keys book call session =
+    record { config = site.config; keys = keys; book = book; call = call; session = session }
+
 abbrev pub errand_for : Site → Keys → Contracts → CallFile → Errand
-errand_for site keys book call = record { config = site.config; keys = keys; book = book; call = call }
+errand_for site keys book call = errand_with site keys book call None
+
+-- the same call, under the next number
+abbrev pub errand_again : Errand → Errand
+errand_again e = record e { call = record e.call { number = e.call.number + 1 }; session = None }
 
 -- The client stands for these inputs: what it keeps is the function of them.
 pub record ClientStandsFor (e : Errand) (inputs : List ClientInput) (client : Client) : Type 0 where

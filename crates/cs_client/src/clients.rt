@@ -14,10 +14,11 @@ use crate::counting;
 use crate::errand::Errand;
 use crate::error::ClientError;
 use crate::known::Known;
-use crate::phases::{Phase, known_in, moved, say_again};
+use crate::phases::{Phase, first, known_in, moved, say_again};
 use cs_approve::Book;
 use cs_base::{Config, Memory, NodeId, Sequence};
 use cs_config::{CallFile, Site};
+use cs_tx_types::Session;
 use cs_tx_value::Digest;
 use cs_wire::{Input, Keys, Message, Out, read};
 use std::alloc::Global;
@@ -152,22 +153,26 @@ fn take_in(
 }
 
 impl ClientCore {
-    ghost use Rattle.std.specs.Prelude.{◌≡◌, List, [], IfOk};
+    ghost use Rattle.std.specs.Prelude.{◌≡◌, ◌-◌, ◌^◌, ◌<◌, List, [], IfOk, IfSome};
     ghost use Rattle.cs_client.specs.declared.errand.Errand.{Errand as AnyErrand};
     ghost use Rattle.cs_client.specs.Inputs.{ClientInput, client_input};
     ghost use Rattle.cs_client.specs.Knowing.{knows};
-    ghost use Rattle.cs_client.specs.Standing.{errand_for, ClientStandsFor, Steps};
+    ghost use Rattle.cs_client.specs.Standing.{errand_with, errand_again, ClientStandsFor, Steps};
+    ghost use Rattle.cs_tx_types.specs.Session.{SessionFits};
 
-    /// The client that makes this call, before its first input. To a peer for whom there is no key
-    /// nothing is said; a key file holds all nodes of its site.
+    /// The client that makes this call, or submits the session of it that was made before; before
+    /// its first input. To a peer for whom there is no key nothing is said; a key file holds all
+    /// nodes of its site.
     pub fn start(
         alloc: Global,
         site: Site,
         keys: Keys,
         book: Book,
         call: CallFile,
+        session: Option<Session>,
     ) -> Result<ClientCore, Memory>
-        ensures { IfOk result (ClientStandsFor (errand_for site keys book call) []) }
+        requires { IfSome session SessionFits }
+        ensures { IfOk result (ClientStandsFor (errand_with site keys book call session) []) }
     {
         let config = site.config;
         let beliefs = Beliefs::new(
@@ -181,11 +186,13 @@ impl ClientCore {
             keys,
             book,
             call,
+            session,
         };
+        let phase = first(alloc, &errand)?;
         Ok(ClientCore {
             errand,
             beliefs,
-            phase: Phase::Asking,
+            phase,
         })
     }
 
@@ -212,6 +219,40 @@ impl ClientCore {
             phase,
         };
         Ok((client, outs))
+    }
+
+    /// The number of the call.
+    pub fn number(&self) -> u64
+        ensures { result ≡ self.now.errand.call.number }
+    {
+        self.errand.call.number
+    }
+
+    /// The client that makes the call again, under the next number, before its first input: it has
+    /// been told nothing.
+    pub fn again(self, alloc: Global) -> Result<ClientCore, Memory>
+        requires { self.errand.call.number < 2 ^ 64 - 1 }
+        ensures { (e : AnyErrand) (inputs : List ClientInput) → ClientStandsFor e inputs self →
+            IfOk result (ClientStandsFor (errand_again e) []) }
+    {
+        let ClientCore {
+            mut errand,
+            beliefs: _beliefs,
+            phase: _phase,
+        } = self;
+        errand.call.number += 1;
+        errand.session = None;
+        let beliefs = Beliefs::new(
+            alloc,
+            &errand.config,
+            errand.call.inputs.as_slice(),
+            errand.call.reads.as_slice(),
+        )?;
+        Ok(ClientCore {
+            errand,
+            beliefs,
+            phase: Phase::Asking,
+        })
     }
 
     /// What the client knows of its session.

@@ -1,10 +1,10 @@
 //! The phases of a client, and how one follows on another.
-ghost use Rattle.std.specs.Prelude.{◌≡◌, ◌++◌, true, Some, OnOk, IfOk};
+ghost use Rattle.std.specs.Prelude.{◌≡◌, ◌++◌, true, Some, OnOk, IfOk, IfSome, option_copied};
 ghost use Rattle.cs_tx.specs.Uses.{concerned_shards};
 ghost use Rattle.cs_tx_types.specs.Session.{SessionFits};
 ghost use Rattle.cs_tx_types.specs.Transaction.{TxFits};
 ghost use Rattle.cs_client.specs.declared.phases.Phase.TheVariants as kept;
-ghost use Rattle.cs_client.specs.Phases.{Asking, Wanting, wanting, after_method};
+ghost use Rattle.cs_client.specs.Phases.{Asking, Wanting, wanting, after_method, first_phase};
 ghost use Rattle.cs_client.specs.Sayings.{submits, again, outs_of_sayings};
 ghost use Rattle.cs_client.specs.Kept.{ToldFits, ToldMarked};
 ghost use Rattle.cs_client.specs.Seen.{phase_seen, WantedFits, SubmissionFits, PhaseFits, known_kept, dummies_kept, IsFresh, Enters, ClientMoves};
@@ -21,7 +21,7 @@ use crate::sessions::{bare, bare_shards, has_input, with_dummies};
 use cs_base::{Memory, NodeId, Sequence};
 use cs_tx::{concerned, session_digest};
 use cs_tx_types::{Session, Tx};
-use cs_tx_value::Digest;
+use cs_tx_value::{Digest, Encoded};
 use cs_wire::Out;
 use std::alloc::Global;
 
@@ -73,6 +73,23 @@ fn submission_of(alloc: Global, errand: &Errand, session: Session) -> Result<Sub
         nodes,
         voices,
     })
+}
+
+/// The phase before the first input.
+pub fn first(alloc: Global, errand: &Errand) -> Result<Phase, Memory>
+    requires { IfSome errand.now.session SessionFits }
+    ensures phase { IfOk result (λ phase. phase_seen phase ≡ first_phase errand.now.session) }
+    ensures fits { IfOk result (PhaseFits errand.now.config) }
+    ensures fresh { IfOk result (IsFresh errand.now.config) }
+{
+    match &errand.session {
+        Some(session) => {
+            let session = session.copy(alloc)?;
+            let submission = submission_of(alloc, errand, session)?;
+            Ok(Phase::Submitting(submission))
+        }
+        None => Ok(Phase::Asking),
+    }
 }
 
 // Says the session to the nodes of all shards that it concerns.

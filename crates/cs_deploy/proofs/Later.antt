@@ -32,13 +32,13 @@ Came inputs before now = (taken : List MemInput) × (before ≡ taken ++ now) ×
 
 -- what was given from the bind on was given from before it on
 module _ (a a' : LinkTold) (w w' : Option Bytes) (b : Beside LinkTold) (kept : Stays a.offered a'.offered) (unwritten : w' ≡ w) where
-  gives-later : (offers : Offers) (lines : Bytes) → Gives offers lines (beside a' w') b → Gives offers lines (beside a w) b
+  pub gives-later : (offers : Offers) (lines : Bytes) → Gives offers lines (beside a' w') b → Gives offers lines (beside a w) b
   gives-later offers lines gives = record {
     offered = adds-later a.offered a'.offered b.told.offered offers kept gives.offered;
     written = subst (λ (x : Option Bytes). Appends x b.written lines) unwritten gives.written;
   }
 
-  part-later : (offers : Offers) (lines : Bytes) → GivesFront offers lines (beside a' w') b → GivesFront offers lines (beside a w) b
+  pub part-later : (offers : Offers) (lines : Bytes) → GivesFront offers lines (beside a' w') b → GivesFront offers lines (beside a w) b
   part-later offers lines gives = record {
     offered = front-later a.offered a'.offered b.told.offered offers kept gives.offered;
     written = subst (λ (x : Option Bytes). AppendsFront x b.written lines) unwritten gives.written;

@@ -2,6 +2,9 @@ pub mod Bound
 pub mod Later
 pub mod Decided
 pub mod Shown
+pub mod Tried
+pub mod Resumed
+mod Unknown
 mod Names
 mod Steps
 mod Texts

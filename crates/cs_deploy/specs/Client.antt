@@ -1,5 +1,5 @@
 -- The command `client`.
-use Rattle.std.specs.Prelude.{◌≡◌, ◌⊎◌, ℕ, List, [], codes, ◌++◌, Option}
+use Rattle.std.specs.Prelude.{◌≡◌, ◌⊎◌, ℕ, List, [], codes, ◌++◌, Option, None}
 use Rattle.cs_base.specs.Answers.{Answer, Answers}
 use Rattle.cs_io.specs.Store.{Files}
 use Rattle.cs_io.specs.Link.{Binds}
@@ -8,13 +8,14 @@ use Rattle.cs_io.specs.declared.link.Bound.TheVariants as bind
 use Rattle.cs_io.specs.declared.until.Until.{Until}
 use Rattle.cs_config.specs.declared.call.CallFile.{CallFile}
 use Rattle.cs_config.specs.declared.hosts.Hosts.{Hosts}
+use Rattle.cs_tx_types.specs.declared.session.Session.{Session}
 use Rattle.cs_proc.specs.declared.error.ProcError.{ProcError}
 use Rattle.cs_proc.specs.declared.error.ProcError.TheVariants as refusal
 use Rattle.cs_client.specs.declared.errand.Errand.{Errand}
 use Rattle.cs_client.specs.declared.known.Known.{Known}
 use Rattle.cs_client.specs.declared.known.Known.TheVariants as known
 use Rattle.cs_client.specs.Lines.{known_line}
-use Rattle.cs_client.specs.Standing.{errand_for}
+use Rattle.cs_client.specs.Standing.{errand_with}
 use Rattle.cs_serve.specs.declared.client_ending.Ending.{Ending}
 use Rattle.cs_serve.specs.declared.client_ending.Ending.TheVariants.{Knows, Refused, LinkFault, Memory}
 use Rattle.cs_serve.specs.Attending.{Attends}
@@ -54,9 +55,9 @@ TellsEnding Memory written written' status = IsSilent written written' status
 
 -- ---- the command
 
--- what a client of this setup is to do that makes this call
-abbrev pub errand_of : Setup → CallFile → Errand
-errand_of setup call = errand_for setup.site setup.keys setup.book call
+-- what a client of this setup is to do that makes this call, or submits the session of it that was made before
+abbrev pub errand_of : Setup → CallFile → Option Session → Errand
+errand_of setup call session = errand_with setup.site setup.keys setup.book call session
 
 -- The link is told where all are and bound as the client of these keys, and the client is run until it knows what has
 -- become of its session.
@@ -70,12 +71,16 @@ pub record IsAttended (errand : Errand) (base_port : ℕ) (hosts : Option Hosts)
   pub told : TellsEnding ending old.written new.written status
 
 -- what becomes of a client whose files are taken
-abbrev pub ClientGoes : Setup → CallFile → Option Hosts → Until → Type 0 → Beside LinkTold → Beside LinkTold → ℕ
-    → Type 0
-ClientGoes setup call hosts until LinkFailed old new status =
+abbrev pub ClientGoesWith : Setup → CallFile → Option Session → Option Hosts → Until → Type 0 → Beside LinkTold
+    → Beside LinkTold → ℕ → Type 0
+ClientGoesWith setup call session hosts until LinkFailed old new status =
     IsShort old new status
     ⊎ (IsUnbound setup.keys.me setup.site.base_port hosts LinkFailed old new status
-    ⊎ IsAttended (errand_of setup call) setup.site.base_port hosts until LinkFailed old new status)
+    ⊎ IsAttended (errand_of setup call session) setup.site.base_port hosts until LinkFailed old new status)
+
+abbrev pub ClientGoes : Setup → CallFile → Option Hosts → Until → Type 0 → Beside LinkTold → Beside LinkTold → ℕ
+    → Type 0
+ClientGoes setup call hosts = ClientGoesWith setup call None hosts
 
 -- what the command comes to
 abbrev pub ClientRuns : List ℕ → List ℕ → List ℕ → Option (List ℕ) → Until → Type 0 → Type 0 → Option Files

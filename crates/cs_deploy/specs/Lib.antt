@@ -1,6 +1,8 @@
 pub mod Binding
 pub mod Node
 pub mod Client
+pub mod Tries
+pub mod Session
 pub mod Show
 pub mod Calls
 pub mod Causes

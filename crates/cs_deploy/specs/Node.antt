@@ -9,7 +9,7 @@ use Rattle.cs_io.specs.declared.link.Bound.TheVariants as bind
 use Rattle.cs_io.specs.declared.until.Until.{Until}
 use Rattle.cs_order_rules.specs.SlotMachine.{slot_machine}
 use Rattle.cs_order_rules.specs.declared.message.OrderMessage.{OrderMessage}
-use Rattle.cs_approve.specs.Approval.{is_approved}
+use Rattle.cs_native.specs.Approval.{is_approved_with_rules}
 use Rattle.cs_node_rules.specs.Net.{Net}
 use Rattle.cs_node_rules.specs.Site.{Site, View, start_view}
 use Rattle.cs_node_rules.specs.Deployment.{site_of}
@@ -25,10 +25,10 @@ use Rattle.cs_deploy.specs.Hosts.{NodeFilesCome}
 use Rattle.cs_deploy.specs.Untaken.{IsSilent}
 use Rattle.cs_deploy.specs.Binding.{IsToldHosts, IsShort, IsUnbound, Runs, link_answer}
 
--- the site of a setup in a net: nodes in the order among 3f+1 members, which approve by the contracts
+-- the site of a setup in a net: nodes in the order among 3f+1 members, which approve by the contracts and the rules
 abbrev pub site_of_setup : Setup → Net → Site OrderMessage
 site_of_setup setup net =
-    site_of (deployed_setup setup.site.config setup.site.genesis (is_approved setup.book)) net slot_machine slot_carrier
+    site_of (deployed_setup setup.site.config setup.site.genesis (is_approved_with_rules setup.book)) net slot_machine slot_carrier
 
 -- nothing is said of the node that is left
 abbrev pub AnyNode : {M : Type 0} → Unit {0} → View M → Type 0

@@ -1,5 +1,5 @@
 //! The command `show`.
-ghost use Rattle.std.specs.Prelude.{◌≡◌, ◌≢◌, ◌≤◌, Some, IsErrAnd, option_copied};
+ghost use Rattle.std.specs.Prelude.{◌≡◌, ◌≢◌, Some, IsErrAnd, option_copied};
 ghost use Rattle.cs_base.specs.Outside.{HasCause};
 ghost use Rattle.cs_io.specs.Told.{Stays};
 ghost use Rattle.cs_io.specs.Outside.{Faultless, Faulty, beside};

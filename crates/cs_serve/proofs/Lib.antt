@@ -1,7 +1,7 @@
-mod Giving
+pub mod Giving
 mod Trails
 mod Noted
 mod Answered
 mod Turns
-mod Runs
+pub mod Runs
 pub mod Told

@@ -30,7 +30,7 @@ outs-noted net me (Entered x ∷ past) = outs-noted net me past
 outs-noted net me (Viewed slot view ∷ past) = outs-noted net me past
 outs-noted net me (Headed number head ∷ past) = outs-noted net me past
 outs-noted net me (Kept index checkpoint ∷ past) = outs-noted net me past
-outs-noted net me (Did slot entry effect ∷ past) = outs-noted net me past
+outs-noted net me (Did slot place entry effect ∷ past) = outs-noted net me past
 outs-noted net me (Sent to message ∷ past) =
     let bytes = sealed_by_net net me to message in
     let out : Out = record { to = to; bytes = bytes } in
@@ -71,8 +71,8 @@ module _ (setup : Setup) (digests : (x : Session) → digest_of setup x ≡ dige
   lines-noted (Took sender vote x ∷ past) = plain past (lines-noted past)
   lines-noted (Entered x ∷ past) = plain past (lines-noted past)
   lines-noted (Sent to message ∷ past) = plain past (lines-noted past)
-  lines-noted (Did slot entry effect ∷ past) =
-      text-push me (notes_of past) (note.Executed slot entry (effect_from effect))
-      ∙ ap (λ bytes. bytes ++ served_note_text me (note.Executed slot entry (effect_from effect))) (lines-noted past)
+  lines-noted (Did slot place entry effect ∷ past) =
+      text-push me (notes_of past) (note.Executed slot place entry (effect_from effect))
+      ∙ ap (λ bytes. bytes ++ served_note_text me (note.Executed slot place entry (effect_from effect))) (lines-noted past)
       ∙ ap (λ e. sign_lines setup false me past ++ slot_line me slot (digest_of_session (session_in entry)) e) (effect-same effect)
       ∙ ap (λ d. sign_lines setup false me past ++ slot_line me slot d effect) (sym (digests (session_in entry)))

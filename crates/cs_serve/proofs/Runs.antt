@@ -97,15 +97,15 @@ pub record SoFar (e : Errand) (until : Until) (turns ticks : ℕ) (old new : Lin
   pub offered : AddsOffers (offers_by e inputs) old.offered new.offered
   pub stands : ClientStandsFor e inputs client
 
-pub begins : (e : Errand) (until : Until) (a : LinkTold) (client : Client) → ClientStandsFor e [] client → SoFar e until 0 0 a a client
-begins e until a client stands = record {
+pub begins : (e : Errand) (until : Until) (a : LinkTold) (client : Client) → ClientStandsFor e [] client → knows e [] ≡ known.Open → SoFar e until 0 0 a a client
+begins e until a client stands open_yet = record {
   inputs = [];
   all = refl;
   ticked = refl;
   needed = tt;
   takes = takes-none a a (stays-same a.left);
   unknown = tt;
-  still = refl;
+  still = open_yet;
   missed = refl;
   offered = adds-none a.offered;
   stands = stands;

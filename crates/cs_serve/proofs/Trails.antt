@@ -22,7 +22,7 @@ parcels-append net me (Entered x ∷ new) old = parcels-append net me new old
 parcels-append net me (Viewed slot view ∷ new) old = parcels-append net me new old
 parcels-append net me (Headed number head ∷ new) old = parcels-append net me new old
 parcels-append net me (Kept index checkpoint ∷ new) old = parcels-append net me new old
-parcels-append net me (Did slot entry effect ∷ new) old = parcels-append net me new old
+parcels-append net me (Did slot place entry effect ∷ new) old = parcels-append net me new old
 parcels-append net me (Sent to message ∷ new) old =
     let last : Parcel = record { from = me; to = to; bytes = sealed_by_net net me to message; arrived = false } in
     ap (λ (ps : List Parcel). ps ++ last ∷ []) (parcels-append net me new old) ∙ append_assoc (parcels_of net me old) (parcels_of net me new) (last ∷ [])

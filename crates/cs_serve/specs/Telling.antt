@@ -15,7 +15,7 @@ abbrev pub served_note_text : NodeId → Note → Bytes
 served_note_text me (note.Dropped cause) = []
 served_note_text me (note.Viewed slot view) = []
 served_note_text me (note.Headed number head) = head_line me number head
-served_note_text me (note.Executed slot entry effect) =
+served_note_text me (note.Executed slot place entry effect) =
     slot_line me slot (digest_of_session (session_in entry)) (effect_of effect)
 
 abbrev pub served_notes_text : NodeId → List Note → Bytes

@@ -5,6 +5,7 @@ ghost use Rattle.cs_base.specs.declared.limits.TheConstants.{MOST_DATAGRAM};
 ghost use Rattle.cs_io.specs.Told.{Stays};
 ghost use Rattle.cs_client.specs.declared.errand.Errand.{Errand};
 ghost use Rattle.cs_client.specs.Inputs.{ClientInput, client_input};
+ghost use Rattle.cs_client.specs.Knowing.{knows};
 ghost use Rattle.cs_client.specs.Standing.{ClientStandsFor};
 ghost use Rattle.cs_serve.specs.Offering.{offers_in};
 ghost use Rattle.cs_serve.specs.Attending.{Attends, ClientTakesTurn, GoesBy, Says};
@@ -20,8 +21,8 @@ use std::alloc::Global;
 /// input after which the client knows what has become of its session, or at which its method is
 /// refused; else where the link has nothing left or fails too often in a row, or for want of memory.
 pub fn attend<L: Link>(alloc: Global, client: ClientCore, link: &mut L, until: Until) -> Ending
-    ensures attends { (e : Errand) → ClientStandsFor e [] client → Attends e until
-        (L.told link.old) (L.told link.new) result }
+    ensures attends { (e : Errand) → ClientStandsFor e [] client → knows e [] ≡ Known.Open
+        → Attends e until (L.told link.old) (L.told link.new) result }
     ensures bound { Stays (L.told link.old).bound (L.told link.new).bound }
     ensures placed { Stays (L.told link.old).placed (L.told link.new).placed }
     ensures cause { HasCause (L.faults link.old) (L.faults link.new) (result ≡ Ending.LinkFault) }

@@ -57,6 +57,7 @@ fn note_text(alloc: Global, me: NodeId, note: &Note) -> Result<String, Memory>
             slot,
             entry,
             effect,
+            ..
         } => {
             let digest = digest_in(alloc, entry)?;
             slot_line(alloc, me, *slot, &digest, *effect)

@@ -23,7 +23,6 @@ use Rattle.cs_show.specs.declared.ending.Ending.TheVariants.{Tells, Open, LinkFa
 use Rattle.cs_show.specs.declared.lookup.Lookup.{Lookup}
 use Rattle.cs_show.specs.declared.looker.Looker.{Looker}
 use Rattle.cs_show.specs.Words.{seen}
-use Rattle.cs_show.specs.Sayings.{asks}
 use Rattle.cs_show.specs.Standing.{LookerStandsFor}
 use Rattle.cs_show.specs.Looking.{offers_at, offers_by, WasUnseen, Looks, Hears, IsTold, Offered, LookAnswers, LookTakesTurn}
 

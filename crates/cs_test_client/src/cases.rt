@@ -5,7 +5,7 @@ use cs_client::ClientCore;
 use cs_config::{CallFile, Site};
 use cs_io::Text;
 use cs_test_samples::{TOKEN, coin, spend};
-use cs_tx::{State, Value, genesis_key, session_digest};
+use cs_tx::{Session, State, Value, genesis_key, session_digest};
 use cs_tx_value::{Digest, Encoded};
 use cs_wire::{Keys, Message, seal};
 use std::alloc::Global;
@@ -83,20 +83,17 @@ pub(crate) fn keys_of(alloc: Global, config: &Config, me: NodeId) -> Result<Keys
     Keys::from_master(alloc, config, &[7; 32], me)
 }
 
-// A client that splits the coin, and reads another where it is to.
-pub(crate) fn start(
-    rt: &impl Abort,
-    alloc: Global,
-    case: &Case,
-    made: &[i64],
-    reads: &[Digest],
-) -> Result<ClientCore, Fail> {
-    let site = Site {
+fn site_of(alloc: Global, case: &Case) -> Site {
+    Site {
         config: case.config,
         base_port: 2000,
         contracts: Sequence::new(alloc),
         genesis: Sequence::new(alloc),
-    };
+    }
+}
+
+// The call that splits the coin, and reads another where it is to.
+fn call_of(alloc: Global, case: &Case, made: &[i64], reads: &[Digest]) -> Result<CallFile, Memory> {
     let mut call = CallFile {
         contract: TOKEN,
         method: Text::from_string(String::from_str(alloc, "transfer")?),
@@ -114,9 +111,37 @@ pub(crate) fn start(
     for worth in made {
         call.args.push(Value::Int(*worth))?;
     }
+    Ok(call)
+}
+
+// A client that makes that call.
+pub(crate) fn start(
+    rt: &impl Abort,
+    alloc: Global,
+    case: &Case,
+    made: &[i64],
+    reads: &[Digest],
+) -> Result<ClientCore, Fail> {
+    let site = site_of(alloc, case);
+    let call = call_of(alloc, case, made, reads)?;
     let book = Book::new(alloc, &[]).expect(rt, "a book");
     let keys = keys_of(alloc, &case.config, CLIENT)?;
-    Ok(ClientCore::start(alloc, site, keys, book, call)?)
+    Ok(ClientCore::start(alloc, site, keys, book, call, None)?)
+}
+
+// A client that submits this session.
+pub(crate) fn resume(
+    rt: &impl Abort,
+    alloc: Global,
+    case: &Case,
+    session: Session,
+) -> Result<ClientCore, Fail> {
+    assert!(rt; session.fits());
+    let site = site_of(alloc, case);
+    let call = call_of(alloc, case, &[], &[])?;
+    let book = Book::new(alloc, &[]).expect(rt, "a book");
+    let keys = keys_of(alloc, &case.config, CLIENT)?;
+    Ok(ClientCore::start(alloc, site, keys, book, call, Some(session))?)
 }
 
 fn active(alloc: Global, worth: i64) -> Result<State, Memory> {

@@ -1,4 +1,4 @@
-//! Tests of a client: its phases, and keys that it looks up.
+//! Tests of a client: its phases, its tries, and keys that it looks up.
 #![tactic(auto)]
 
 #[cfg(test)]
@@ -7,3 +7,5 @@ mod cases;
 mod client_tests;
 #[cfg(test)]
 mod show_tests;
+#[cfg(test)]
+mod tries_tests;

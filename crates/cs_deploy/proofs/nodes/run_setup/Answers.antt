@@ -1,8 +1,8 @@
 use Rattle.std.proofs.Common.{Err, inl, inr, refl, ap, arith}
-use Rattle.cs_approve.specs.contracts.judging.BookJudge.TheImpl as judge
+use Rattle.cs_native.specs.contracts.ruling.RuledBookJudge.TheImpl as judge
 use Rattle.cs_node_rules.specs.Site.{start_view}
 use Rattle.cs_node_pool.specs.Deployed.{deployed_setup}
-use Rattle.cs_approve.specs.Approval.{is_approved}
+use Rattle.cs_native.specs.Approval.{is_approved_with_rules}
 use Rattle.cs_node.specs.Cores.{CoreStandsFor}
 use Rattle.cs_log.specs.contracts.slot_order.SlotOrderOrder.TheImpl as order
 use Rattle.cs_deploy.proofs.Answered.{keeps, rose-later, rose-sooner, cause-later}
@@ -49,7 +49,7 @@ returns-in-Ok-bind_or_tell-clause-goes g c =
           let v = start_view site setup.keys.me in
           serves-later site v c.args.until new (g.L.Link.told c.args.link.now) (g.L.Link.told c.bind_or_tell.new.link) (g.K.Sink.written c.args.out.now) (g.K.Sink.written c.bind_or_tell.new.out) c.serve-end.result.0 bound.quiet.left bound.quiet.offered bound.quiet.missed bound.unwritten
           (serves-alone (CoreStandsFor order.ghosts.stands judge.ghosts.is_approved site) site v c.args.until _ new c.serve-end.result
-          (c.serve-end.ensures.serves (deployed_setup setup.site.config setup.site.genesis (is_approved setup.book)) net v (c.in-Ok.ensures net speaks)));
+          (c.serve-end.ensures.serves (deployed_setup setup.site.config setup.site.genesis (is_approved_with_rules setup.book)) net v (c.in-Ok.ensures net speaks)));
       failed = λ is. rose-later _ _ _ c.in-Ok-bind_or_tell.ensures.link (c.serve-end.ensures.link.cause is);
       told = c.tell_end.ensures.tells;
     }))

@@ -1,7 +1,8 @@
 use Rattle.std.proofs.Common.{refl, sym, ap, subst, ◌∙◌}
 use Rattle.cs_client.specs.Kept.{unheard, ToldFits, ToldMarked}
-use Rattle.cs_client.specs.Standing.{errand_for}
+use Rattle.cs_client.specs.Standing.{errand_with}
 use Rattle.cs_client.proofs.Beginning.{nothing-told, unheard-fits, unheard-marked}
+use Rattle.cs_client.proofs.Moving.{first-heard}
 use Rattle.cs_client.proofs.clients.ClientCore.start.Goals as goal
 
 pub invariant_of-result : goal.invariant_of-result
@@ -12,12 +13,13 @@ invariant_of-result c =
     record {
       told_fits = subst (ToldFits config) (sym c.in_ok-beliefs.ensures) (unheard-fits config i r);
       told_marked = subst (ToldMarked config.f) (sym c.in_ok-beliefs.ensures) (unheard-marked config i r);
-      phase_fits = tt;
+      phase_fits = c.in_ok-phase.ensures.fits;
     }
 
 pub returns : goal.returns
 returns c =
     let config = c.args.site.config in
+    let e = errand_with c.args.site c.args.keys c.args.book c.args.call c.args.session in
     record {
       errand_is = refl;
       keeps = record {
@@ -25,8 +27,8 @@ returns c =
             c.in_ok-beliefs.ensures
             ∙ (ap (λ names. unheard config names c.as_slice-2.result.now) c.as_slice.ensures
             ∙ (ap (unheard config c.args.call.inputs) c.as_slice-2.ensures
-            ∙ sym (nothing-told (errand_for c.args.site c.args.keys c.args.book c.args.call))));
-        phase_is = refl;
-        heard = tt;
+            ∙ sym (nothing-told e)));
+        phase_is = c.in_ok-phase.ensures.phase;
+        heard = first-heard e c.in_ok-phase.phase c.in_ok-phase.ensures.fresh;
       };
     }

@@ -1,0 +1,20 @@
+use Rattle.std.proofs.Common.{Option, refl, sym, subst}
+use Rattle.cs_io.specs.Outside.{Faulty, beside}
+use Rattle.cs_io.specs.laws.Told.{stays-same}
+use Rattle.cs_tx_types.specs.declared.session.Session.{Session}
+use Rattle.cs_deploy.specs.Session.{Resumes}
+use Rattle.cs_deploy.proofs.sessions.resubmit.Goals as goal
+
+pub returns-in-None-clause-goes : goal.returns-in-None-clause-goes
+returns-in-None-clause-goes g c =
+    let link = g.L.Link.told c.args.link.now in
+    subst
+    (λ (session : Option Session). Resumes c.args.setup c.args.call c.args.hosts c.args.until (Faulty g.L.Link.faults c.args.link.now c.args.link.now) session (beside link (g.K.Sink.written c.args.out.now)) (beside link (g.K.Sink.written c.tell.new.out)) c.tell.result)
+    (sym c.in-None.is) (
+      record {
+        bound = stays-same link.bound;
+        placed = stays-same link.placed;
+        quiet = record { left = stays-same link.left; offered = stays-same link.offered; missed = refl };
+      },
+      c.tell.ensures.answers,
+    )

@@ -1,0 +1,51 @@
+-- The command `client` whose call is made again after it was aborted.
+use Rattle.std.specs.Prelude.{◌≡◌, ◌⊎◌, ℕ, List, Option, None}
+use Rattle.std.specs.Io.KnownBytes.{Keeps}
+use Rattle.cs_io.specs.Store.{Files}
+use Rattle.cs_io.specs.Link.{Binds}
+use Rattle.cs_io.specs.Outside.{LinkTold, Beside}
+use Rattle.cs_io.specs.declared.link.Bound.TheVariants as bind
+use Rattle.cs_io.specs.declared.until.Until.{Until}
+use Rattle.cs_config.specs.declared.call.CallFile.{CallFile}
+use Rattle.cs_config.specs.declared.hosts.Hosts.{Hosts}
+use Rattle.cs_client.specs.declared.errand.Errand.{Errand}
+use Rattle.cs_tries.specs.Tries.{try_begun}
+use Rattle.cs_serve.specs.declared.client_ending.Ending.TheVariants.{LinkFault}
+use Rattle.cs_tries.specs.declared.ending.TryEnding.{TryEnding}
+use Rattle.cs_tries.specs.declared.ending.TryEnding.TheVariants.{Ended, WriteFault}
+use Rattle.cs_tries.specs.Trying.{AttendsTries}
+use Rattle.cs_deploy.specs.declared.setups.Setup.{Setup}
+use Rattle.cs_deploy.specs.Hosts.{ClientFilesCome}
+use Rattle.cs_deploy.specs.Binding.{IsToldHosts, IsShort, IsUnbound, Runs}
+use Rattle.cs_deploy.specs.Client.{TellsEnding, errand_of}
+
+-- what is printed behind the lines of the tries that others followed, and the status
+abbrev pub TellsTryEnding : TryEnding → Option (List ℕ) → Option (List ℕ) → ℕ → Type 0
+TellsTryEnding (Ended ending) written written' status = TellsEnding ending written written' status
+TellsTryEnding WriteFault written written' status = (status ≡ 6) × Keeps written written'
+
+-- The link is told where all are and bound as the client of these keys, and so many tries are made at most.
+pub record IsTried (errand : Errand) (base_port : ℕ) (hosts : Option Hosts) (tries : ℕ) (until : Until)
+    (LinkFailed : Type 0) (old new : Beside LinkTold) (status : ℕ) : Type 0 where
+  pub placed : IsToldHosts hosts old.told new.told
+  pub bound : Binds old.told.bound new.told.bound errand.keys.me base_port bind.Done
+  pub ending : TryEnding
+  pub written : Option (List ℕ)
+  pub attends : AttendsTries (try_begun errand tries) until old (record new { written = written }) ending
+  pub failed : ending ≡ Ended LinkFault → LinkFailed
+  pub told : TellsTryEnding ending written new.written status
+
+-- what becomes of a client whose files are taken
+abbrev pub TriesGo : Setup → CallFile → Option Hosts → ℕ → Until → Type 0 → Beside LinkTold → Beside LinkTold → ℕ
+    → Type 0
+TriesGo setup call hosts tries until LinkFailed old new status =
+    IsShort old new status
+    ⊎ (IsUnbound setup.keys.me setup.site.base_port hosts LinkFailed old new status
+    ⊎ IsTried (errand_of setup call None) setup.site.base_port hosts tries until LinkFailed old new status)
+
+-- what the command comes to
+abbrev pub TriesRun : List ℕ → List ℕ → List ℕ → Option (List ℕ) → ℕ → Until → Type 0 → Type 0 → Option Files
+    → Beside LinkTold → Beside LinkTold → ℕ → Type 0
+TriesRun site keys call hosts tries until StoreFailed LinkFailed files old new status =
+    Runs (ClientFilesCome site keys call hosts) (λ taken. TriesGo taken.0.0 taken.0.1 taken.1 tries until LinkFailed)
+    StoreFailed files old new status

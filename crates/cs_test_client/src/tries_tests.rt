@@ -1,0 +1,98 @@
+//! A call that is made again, and a session that was made before, over a link in memory.
+use crate::cases::{Case, Word, make_case, resume, sealed, start};
+use cs_base::{MemSink, NodeId, Sequence, print_bytes};
+use cs_client::Known;
+use cs_io::{MemInput, MemLink, Until};
+use cs_serve::{Ending, attend};
+use cs_test_samples::spend;
+use cs_tries::{TryEnding, attend_tries};
+use cs_tx::session_digest;
+use cs_tx_value::Encoded;
+use std::alloc::Global;
+use std::process::Abort;
+use std::test::Fail;
+
+const NODE: NodeId = NodeId { shard: 0, index: 0 };
+
+// The case of the same call under the next number.
+fn next_case(rt: &impl Abort, alloc: Global, case: &Case) -> Result<Case, Fail> {
+    let session = spend(alloc, case.name, 5, &[2, 3], 2)?;
+    assert!(rt; session.fits());
+    let digest = session_digest(alloc, &session)?;
+    Ok(Case {
+        config: case.config,
+        name: case.name,
+        digest,
+    })
+}
+
+// A link by which the node of the shard says these, each of its case, behind a tick.
+fn link_of(rt: &impl Abort, alloc: Global, said: &[(&Case, Word)]) -> Result<MemLink, Fail> {
+    let mut inputs = Vec::new(alloc);
+    inputs.push(MemInput::Tick)?;
+    for (case, word) in said {
+        let bytes = sealed(rt, alloc, case, NODE, *word)?;
+        inputs.push(MemInput::Datagram(Sequence::from_vec(bytes)))?;
+    }
+    Ok(MemLink::new(alloc, inputs, Vec::new(alloc)))
+}
+
+// How a call ends that is tried so often, of which this is printed before, and how many datagrams
+// were offered.
+fn tried(
+    rt: &impl Abort,
+    alloc: Global,
+    said: &[(&Case, Word)],
+    tries: u64,
+    printed: &str,
+) -> Result<(TryEnding, usize), Fail> {
+    let one = make_case(rt, alloc, (1, 0), &[2, 3], &[])?;
+    let client = start(rt, alloc, &one, &[2, 3], &[])?;
+    let mut link = link_of(rt, alloc, said)?;
+    let mut out = MemSink::new(alloc, Vec::new(alloc));
+    let until = Until::Turns(9);
+    let ending = attend_tries(alloc, client, tries, &mut link, &mut out, until);
+    assert_eq!(rt; out.bytes(), printed.as_bytes());
+    Ok((ending, link.offered().len()))
+}
+
+#[test]
+fn an_aborted_call_is_made_again(rt: HostRuntime) -> Result<(), Fail> {
+    let alloc = rt.alloc();
+    let one = make_case(&rt, alloc, (1, 0), &[2, 3], &[])?;
+    let next = next_case(&rt, alloc, &one)?;
+    let said = [
+        (&one, Word::Coin(5)),
+        (&one, Word::Aborted),
+        (&one, Word::Aborted),
+        (&one, Word::Coin(5)),
+        (&one, Word::Accepted),
+        (&next, Word::Accepted),
+    ];
+    let hex = print_bytes(alloc, &one.digest)?;
+    let line = format!(in alloc; "aborted {hex}\n")?;
+    let (ending, offered) = tried(&rt, alloc, said.as_slice(), 2, line.as_str())?;
+    let accepted = Ending::Knows(Known::Accepted(next.digest));
+    assert_eq!(rt; ending, TryEnding::Ended(accepted));
+    assert_eq!(rt; offered, 3);
+    // The last try's line isn't printed here.
+    let (ending, offered) = tried(&rt, alloc, said.as_slice(), 1, "")?;
+    let aborted = Ending::Knows(Known::Aborted(one.digest));
+    assert_eq!(rt; ending, TryEnding::Ended(aborted));
+    assert_eq!(rt; offered, 2);
+    Ok(())
+}
+
+#[test]
+fn a_session_is_asked_for_again(rt: HostRuntime) -> Result<(), Fail> {
+    let alloc = rt.alloc();
+    let one = make_case(&rt, alloc, (1, 0), &[2, 3], &[])?;
+    let session = spend(alloc, one.name, 5, &[2, 3], 1)?;
+    let client = resume(&rt, alloc, &one, session)?;
+    let said = [(&one, Word::Coin(9)), (&one, Word::Accepted)];
+    let mut link = link_of(&rt, alloc, said.as_slice())?;
+    let ending = attend(alloc, client, &mut link, Until::Turns(9));
+    assert_eq!(rt; ending, Ending::Knows(Known::Accepted(one.digest)));
+    assert_eq!(rt; link.offered().len(), 1);
+    Ok(())
+}

@@ -1,0 +1,319 @@
+-- How the run of a client goes on from try to try, and how it ends.
+use Rattle.std.proofs.Common.{◌≡◌, ◌≢◌, ℕ, ◌+◌, ◌-◌, ◌^◌, ◌≤◌, inl, inr, Bool, true, false, List, [], ◌∷◌, ◌++◌, length, Option, Result, Ok, Err, refl, sym, ap, subst, ◌∙◌, arith, append-nil, if◌then◌else◌}
+use Rattle.std.specs.Prelude.{min, count_by}
+use Rattle.std.specs.Int.{from_bool}
+use Rattle.std.specs.Io.KnownBytes.{Appends}
+use Rattle.std.proofs.KnownBytes.{Appends-nil}
+use Rattle.cs_base.specs.Answers.{AppendsFront}
+use Rattle.cs_io.specs.Told.{Changes, Stays}
+use Rattle.cs_io.specs.Link.{Offers}
+use Rattle.cs_io.specs.Outside.{LinkTold, Beside, beside}
+use Rattle.cs_io.specs.Until.{IsOver, AreNeeded}
+use Rattle.cs_io.specs.declared.until.Until.{Until}
+use Rattle.cs_io.specs.laws.Told.{stays-same}
+use Rattle.cs_proc.specs.declared.error.ProcError.{ProcError}
+use Rattle.cs_wire.specs.declared.input.Out.{Out}
+use Rattle.cs_client.specs.declared.known.Known.{Known}
+use Rattle.cs_client.specs.declared.known.Known.TheVariants as known
+use Rattle.cs_client.specs.declared.errand.Errand.{Errand}
+use Rattle.cs_client.specs.Inputs.{ClientInput}
+use Rattle.cs_client.specs.Knowing.{knows}
+use Rattle.cs_client.specs.Lines.{known_line}
+use Rattle.cs_client.specs.Sayings.{says_at, outs_of_sayings}
+use Rattle.cs_client.specs.Seen.{Client}
+use Rattle.cs_client.specs.Standing.{errand_again, ClientStandsFor, MethodIsRefused}
+use Rattle.cs_tries.specs.Tries.{Try, try_begun, may_follow, has_next, with_input, known_in_try, then_next, moved_on, try_after, line_between, line_at, lines_in}
+use Rattle.cs_serve.specs.declared.receiving.TheConstants.{MOST_MISSED}
+use Rattle.cs_serve.specs.declared.client_ending.Ending.{Ending}
+use Rattle.cs_serve.specs.declared.client_ending.Ending.TheVariants.{Knows, Refused, LinkFault, Memory}
+use Rattle.cs_tries.specs.declared.ending.TryEnding.{TryEnding}
+use Rattle.cs_tries.specs.declared.ending.TryEnding.TheVariants.{Ended, WriteFault}
+use Rattle.cs_serve.specs.Offering.{offers_in, AddsOffers, AddsFront}
+use Rattle.cs_serve.specs.Giving.{Gives, GivesFront}
+use Rattle.cs_serve.specs.Attending.{is_tick, ClientTakes, offers_at, missed_past, HasNone, HasFailed}
+use Rattle.cs_tries.specs.Trying.{offers_in_tries, GivesTries, WasOpenInTries, TriesEnd, AttendsTries, Going, GoesOnAs, GoesBehind, PrintsBehind, GivenBy, TryGoesBy, TryAnswers, TryTakesTurn}
+use Rattle.cs_serve.specs.laws.Offering.{adds-none, adds-still, adds-later, front-all, front-later}
+use Rattle.cs_serve.specs.laws.Taken.{ticks-more, over-by, still-by}
+use Rattle.cs_serve.proofs.Giving.{AppendsFront-all, AppendsFront-none, Gives-nil, Gives-more, GivesFront-after, GivesFront-all}
+use Rattle.cs_serve.proofs.Told.{takes-none, takes-still, takes-more, takes-one}
+
+-- ---- behind what is known of a try
+
+pub follows : (t : Try) (client : Client) (tries number : ℕ) → true ≡ may_follow tries number → number ≡ client.errand.call.number → client.errand ≡ t.errand → tries ≡ t.tries → has_next t ≡ true
+follows t client tries number may is same left =
+    sym (may ∙ (ap (may_follow tries) (is ∙ ap (λ (e : Errand). e.call.number) same) ∙ ap (λ n. may_follow n t.errand.call.number) left))
+
+pub follows-not : (t : Try) (client : Client) (tries number : ℕ) → false ≡ may_follow tries number → number ≡ client.errand.call.number → client.errand ≡ t.errand → tries ≡ t.tries → has_next t ≡ false
+follows-not t client tries number may is same left =
+    sym (may ∙ (ap (may_follow tries) (is ∙ ap (λ (e : Errand). e.call.number) same) ∙ ap (λ n. may_follow n t.errand.call.number) left))
+
+module _ (t : Try) where
+  abbrev next : Try
+  next = try_begun (errand_again t.errand) (t.tries - 1)
+
+  pub open-goes : (client : Client) (tries : ℕ) → known_in_try t ≡ known.Open → ClientStandsFor t.errand t.inputs client → tries ≡ t.tries → GoesBehind (then_next (known_in_try t) t) (Ok (client, tries))
+  open-goes client tries open_yet stands left =
+      subst (λ (u : Try). GoesOnAs u (client, tries)) (sym (ap (λ (k : Known). then_next k t) open_yet)) (record { stands = stands; tries_are = left; unknown = open_yet })
+
+  pub open-printed : (written : Option (List ℕ)) (going : Going) → known_in_try t ≡ known.Open → PrintsBehind (line_between (known_in_try t) t) written written (Ok going)
+  open-printed written going open_yet =
+      subst (λ (line : List ℕ). Appends written written line) (sym (ap (λ (k : Known). line_between k t) open_yet)) (Appends-nil written)
+
+  pub accepted-goes : (digest : List ℕ) → known_in_try t ≡ known.Accepted digest → GoesBehind (then_next (known_in_try t) t) (Err (Ended (Knows (known.Accepted digest))))
+  accepted-goes digest is =
+      (ap known_in_try (ap (λ (k : Known). then_next k t) is) ∙ is, λ open_yet. let q : known.Accepted digest ≡ known.Open = open_yet in cc)
+
+  pub accepted-printed : (written : Option (List ℕ)) (digest : List ℕ) (so : Known) → known_in_try t ≡ known.Accepted digest → PrintsBehind (line_between (known_in_try t) t) written written (Err (Ended (Knows so)))
+  accepted-printed written digest so is =
+      subst (λ (line : List ℕ). Appends written written line) (sym (ap (λ (k : Known). line_between k t) is)) (Appends-nil written)
+
+  -- another one follows
+  pub next-goes : (digest : List ℕ) (result : Result Going TryEnding) → has_next t ≡ true → GoesBehind next result → GoesBehind (then_next (known.Aborted digest) t) result
+  next-goes digest result may goes = subst (λ (u : Try). GoesBehind u result) (sym (ap (λ (b : Bool). if b then next else t) may)) goes
+
+  pub next-printed : (digest : List ℕ) (written written' : Option (List ℕ)) (result : Result Going TryEnding) → has_next t ≡ true → PrintsBehind (known_line (known.Aborted digest)) written written' result
+      → PrintsBehind (line_between (known.Aborted digest) t) written written' result
+  next-printed digest written written' result may printed =
+      subst (λ (line : List ℕ). PrintsBehind line written written' result) (sym (ap (λ (b : Bool). if b then known_line (known.Aborted digest) else []) may)) printed
+
+  -- none follows
+  pub last-goes : (digest : List ℕ) → has_next t ≡ false → known_in_try t ≡ known.Aborted digest → GoesBehind (then_next (known.Aborted digest) t) (Err (Ended (Knows (known.Aborted digest))))
+  last-goes digest may is =
+      (ap known_in_try (ap (λ (b : Bool). if b then next else t) may) ∙ is, λ open_yet. let q : known.Aborted digest ≡ known.Open = open_yet in cc)
+
+  pub last-printed : (digest : List ℕ) (written : Option (List ℕ)) (so : Known) → has_next t ≡ false → PrintsBehind (line_between (known.Aborted digest) t) written written (Err (Ended (Knows so)))
+  last-printed digest written so may =
+      subst (λ (line : List ℕ). Appends written written line) (sym (ap (λ (b : Bool). if b then known_line (known.Aborted digest) else []) may)) (Appends-nil written)
+
+  -- it begins without inputs
+  pub begun-goes : (client : Client) (tries : ℕ) → ClientStandsFor (errand_again t.errand) [] client → tries ≡ t.tries - 1 → GoesBehind next (Ok (client, tries))
+  begun-goes client tries stands left = record { stands = stands; tries_are = left; unknown = refl }
+
+-- ---- what is given at an input
+
+pub given-by : (offers : Offers) (line : List ℕ) (a b : LinkTold) (w w' : Option (List ℕ)) (result : Result Going TryEnding) → AddsOffers offers a.offered b.offered → PrintsBehind line w w' result → GivenBy offers line (beside a w) (beside b w') result
+given-by offers line a b w w' (Ok going) adds printed = record { offered = adds; written = printed }
+given-by offers line a b w w' (Err (Ended (Knows so))) adds printed = record { offered = adds; written = printed }
+given-by offers line a b w w' (Err (Ended (Refused cause))) adds printed = record { offered = adds; written = printed }
+given-by offers line a b w w' (Err (Ended LinkFault)) adds printed = record { offered = adds; written = printed }
+given-by offers line a b w w' (Err (Ended Memory)) adds printed = record { offered = front-all a.offered b.offered offers adds; written = printed }
+given-by offers line a b w w' (Err WriteFault) adds printed = record { offered = front-all a.offered b.offered offers adds; written = printed }
+
+-- memory ran out before a line was printed
+pub given-short : (offers : Offers) (line : List ℕ) (a b : LinkTold) (w : Option (List ℕ)) → AddsFront offers a.offered b.offered → GivenBy offers line (beside a w) (beside b w) (Err (Ended Memory))
+given-short offers line a b w front = record { offered = front; written = AppendsFront-none w line }
+
+-- memory ran out before anything was given
+pub none-given : (offers : Offers) (line : List ℕ) (a : Beside LinkTold) → GivesFront offers line a a
+none-given offers line a = record { offered = ([], offers, refl, adds-none a.told.offered); written = AppendsFront-none a.written line }
+
+pub said-goes : (t : Try) (input : ClientInput) (outs : List Out) (old new : Beside LinkTold) (result : Result Going TryEnding) → outs ≡ outs_of_sayings t.errand.keys (says_at t.errand input t.inputs)
+    → GoesBehind (moved_on (with_input input t)) result → GivenBy (offers_in outs) (line_at input t) old new result → TryGoesBy t input old new result
+said-goes t input outs old new result is goes given =
+    by result goes (subst (λ (o : List Out). GivenBy (offers_in o) (line_at input t) old new result) is given)
+  where
+    by : (result : Result Going TryEnding) → GoesBehind (moved_on (with_input input t)) result → GivenBy (offers_at t.errand input t.inputs) (line_at input t) old new result → TryGoesBy t input old new result
+    by (Ok going) goes given = (goes, given)
+    by (Err (Ended (Knows so))) goes given = (goes, given)
+    by (Err (Ended (Refused cause))) goes given = absurd goes
+    by (Err (Ended LinkFault)) goes given = (goes, given)
+    by (Err (Ended Memory)) goes given = (goes, given)
+    by (Err WriteFault) goes given = (goes, given)
+
+-- a link that takes an input was offered nothing
+module _ (a b : LinkTold) (w : Option (List ℕ)) (c : Beside LinkTold) (stays : Stays a.offered b.offered) where
+  gives-later : (offers : Offers) (line : List ℕ) → Gives offers line (beside b w) c → Gives offers line (beside a w) c
+  gives-later offers line gives = record { offered = adds-later a.offered b.offered c.told.offered offers stays gives.offered; written = gives.written }
+
+  part-later : (offers : Offers) (line : List ℕ) → GivesFront offers line (beside b w) c → GivesFront offers line (beside a w) c
+  part-later offers line gives = record { offered = front-later a.offered b.offered c.told.offered offers stays gives.offered; written = gives.written }
+
+  pub goes-later : (t : Try) (input : ClientInput) (result : Result Going TryEnding) → TryGoesBy t input (beside b w) c result → TryGoesBy t input (beside a w) c result
+  goes-later t input (Ok going) (goes, given) = (goes, gives-later _ _ given)
+  goes-later t input (Err (Ended (Knows so))) (goes, given) = (goes, gives-later _ _ given)
+  goes-later t input (Err (Ended (Refused cause))) (goes, given) = (goes, gives-later _ _ given)
+  goes-later t input (Err (Ended LinkFault)) (goes, given) = absurd goes
+  goes-later t input (Err (Ended Memory)) (goes, given) = (goes, part-later _ _ given)
+  goes-later t input (Err WriteFault) (goes, given) = (goes, part-later _ _ given)
+
+-- ---- one turn
+
+-- the first input that was left was taken and answered
+pub try-answered : (t : Try) (input : ClientInput) (a b c : LinkTold) (w w' : Option (List ℕ)) (result : Result Going TryEnding) → Changes (λ (before now : List ClientInput). before ≡ input ∷ now) a.left b.left → b.missed ≡ 0 → Stays a.offered b.offered
+    → Stays b.left c.left → c.missed ≡ b.missed → TryGoesBy t input (beside b w) (beside c w') result → TryAnswers t (beside a w) (beside c w') result
+try-answered t input a b c w w' result gone missed offered left same goes = record {
+  input = input;
+  takes = takes-one a b c input gone left;
+  missed = same ∙ missed;
+  goes = goes-later a b w (beside c w') offered t input result goes;
+}
+
+-- and the run goes on
+pub try-on : (t : Try) (input : ClientInput) (a b c : LinkTold) (w w' : Option (List ℕ)) (client : Client) (tries : ℕ) (ticked : Bool) → ticked ≡ is_tick input → Changes (λ (before now : List ClientInput). before ≡ input ∷ now) a.left b.left → b.missed ≡ 0
+    → Stays a.offered b.offered → Stays b.left c.left → c.missed ≡ b.missed → TryGoesBy t input (beside b w) (beside c w') (Ok (client, tries)) → TryTakesTurn t (beside a w) (beside c w') (Ok (client, tries, ticked))
+try-on t input a b c w w' client tries ticked is gone missed offered left same goes = (
+  record {
+    input = input;
+    takes = takes-one a b c input gone left;
+    missed = same ∙ missed;
+    goes = goes-later a b w (beside c w') offered t input (Ok (client, tries)) goes;
+  },
+  is,
+)
+
+-- and that ended the run
+pub try-ended : (t : Try) (a c : Beside LinkTold) (ending : TryEnding) → TryAnswers t a c (Err ending) → TryTakesTurn t a c (Err ending)
+try-ended t a c (Ended (Knows known.Open)) one = absurd (one.goes.0.1 refl)
+try-ended t a c (Ended (Knows (known.Accepted digest))) one = one
+try-ended t a c (Ended (Knows (known.Aborted digest))) one = one
+try-ended t a c (Ended (Refused cause)) one = one
+try-ended t a c (Ended LinkFault) one = absurd one.goes.0
+try-ended t a c (Ended Memory) one = one
+try-ended t a c WriteFault one = one
+
+-- ---- so many turns
+
+-- so many inputs were taken, so many of them ticks, none of them too many, and nothing is known of the try that is made
+pub record TriesSoFar (first : Try) (until : Until) (turns ticks : ℕ) (old new : Beside LinkTold) (going : Going) : Type 0 where
+  pub inputs : List ClientInput
+  pub all : length inputs ≡ turns
+  pub ticked : count_by is_tick inputs ≡ ticks
+  pub needed : AreNeeded is_tick until inputs
+  pub takes : ClientTakes inputs old.told new.told
+  pub unknown : WasOpenInTries first inputs
+  pub goes : GoesOnAs (try_after first inputs) going
+  pub missed : new.told.missed ≡ missed_past old.told.missed inputs
+  pub gives : GivesTries first inputs old new
+
+pub tries-begin : (e : Errand) (tries : ℕ) (until : Until) (a : Beside LinkTold) (client : Client) → ClientStandsFor e [] client → knows e [] ≡ known.Open → TriesSoFar (try_begun e tries) until 0 0 a a (client, tries)
+tries-begin e tries until a client stands open_yet = record {
+  inputs = [];
+  all = refl;
+  ticked = refl;
+  needed = tt;
+  takes = takes-none a.told a.told (stays-same a.told.left);
+  unknown = tt;
+  goes = record { stands = stands; tries_are = refl; unknown = open_yet };
+  missed = refl;
+  gives = Gives-nil a;
+}
+
+-- a turn, whatever came before
+abbrev pub TurnOf : Client → ℕ → Beside LinkTold → Beside LinkTold → Result (Client × ℕ × Bool) TryEnding → Type 0
+TurnOf client tries old new result = (t : Try) → ClientStandsFor t.errand t.inputs client → tries ≡ t.tries → TryTakesTurn t old new result
+
+one-more : (input : ClientInput) (past : List ClientInput) (n : ℕ) → length past ≡ n → length (input ∷ past) ≡ n + 1
+one-more input past n is = omega arith
+
+pub tries-go-on : (first : Try) (until : Until) (turns ticks : ℕ) (a b c : Beside LinkTold) (client later : Client) (tries left : ℕ) (ticked : Bool) (more : ℕ) → more ≡ from_bool ticked → (IsOver until turns ticks → ⊥) → TriesSoFar first until turns ticks a b (client, tries)
+    → TurnOf client tries b c (Ok (later, left, ticked)) → TriesSoFar first until (turns + 1) (ticks + more) a c (later, left)
+tries-go-on first until turns ticks a b c client later tries left ticked more counted still so turn =
+    let t = try_after first so.inputs in
+    let both = turn t so.goes.stands so.goes.tries_are in
+    let one = both.0 in
+    record {
+      inputs = one.input ∷ so.inputs;
+      all = one-more one.input so.inputs turns so.all;
+      ticked = ticks-more is_tick one.input so.inputs ticks more ticked so.ticked both.1 counted;
+      needed = still-by is_tick until so.inputs turns ticks so.all so.ticked still;
+      takes = takes-more a.told b.told c.told so.inputs (one.input ∷ []) so.takes one.takes;
+      unknown = (so.goes.unknown, so.unknown);
+      goes = one.goes.0;
+      missed = one.missed;
+      gives = Gives-more a b c (offers_in_tries first so.inputs) (offers_at t.errand one.input t.inputs) (lines_in first so.inputs) (line_at one.input t) so.gives one.goes.1;
+    }
+
+-- ---- how it ends
+
+-- want of memory before the first turn
+pub tries-nothing : (first : Try) (until : Until) (a : Beside LinkTold) → AttendsTries first until a a (Ended Memory)
+tries-nothing first until a = record {
+  inputs = [];
+  needed = tt;
+  takes = takes-none a.told a.told (stays-same a.told.left);
+  unknown = tt;
+  ends = GivesFront-all a a [] [] (Gives-nil a);
+}
+
+-- they were enough
+pub tries-over : (first : Try) (until : Until) (turns ticks : ℕ) (a b : Beside LinkTold) (going : Going) → IsOver until turns ticks → TriesSoFar first until turns ticks a b going → AttendsTries first until a b (Ended (Knows known.Open))
+tries-over first until turns ticks a b going enough so = record {
+  inputs = so.inputs;
+  needed = so.needed;
+  takes = so.takes;
+  unknown = so.unknown;
+  ends = (so.goes.unknown, λ open_yet. inl (over-by is_tick until so.inputs turns ticks so.all so.ticked enough), so.gives);
+}
+
+-- nothing more was given
+kept : (offers : Offers) (lines : List ℕ) (a b c : Beside LinkTold) → Stays b.told.offered c.told.offered → c.written ≡ b.written → Gives offers lines a b → Gives offers lines a c
+kept offers lines a b c stays same gives = record {
+  offered = adds-still a.told.offered b.told.offered c.told.offered offers gives.offered stays;
+  written = subst (λ (w : Option (List ℕ)). Appends a.written w lines) (sym same) gives.written;
+}
+
+module _ (first : Try) (until : Until) (turns ticks : ℕ) (a b c : Beside LinkTold) (client : Client) (tries : ℕ) (still : IsOver until turns ticks → ⊥) (so : TriesSoFar first until turns ticks a b (client, tries)) where
+  abbrev now : Try
+  now = try_after first so.inputs
+
+  one-needed : (input : ClientInput) → AreNeeded is_tick until (input ∷ so.inputs)
+  one-needed input = still-by is_tick until so.inputs turns ticks so.all so.ticked still
+
+  more-given : (input : ClientInput) → Gives (offers_at now.errand input now.inputs) (line_at input now) b c → GivesTries first (input ∷ so.inputs) a c
+  more-given input gives = Gives-more a b c (offers_in_tries first so.inputs) (offers_at now.errand input now.inputs) (lines_in first so.inputs) (line_at input now) so.gives gives
+
+  more-part : (input : ClientInput) → GivesFront (offers_at now.errand input now.inputs) (line_at input now) b c → GivesFront (offers_in_tries first (input ∷ so.inputs)) (lines_in first (input ∷ so.inputs)) a c
+  more-part input gives = GivesFront-after a b c (offers_in_tries first so.inputs) (offers_at now.errand input now.inputs) (lines_in first so.inputs) (line_at input now) so.gives gives
+
+  at-last : (ending : TryEnding) → (one : TryAnswers now b c (Err ending)) → TriesEnd first until (one.input ∷ so.inputs) a c ending → AttendsTries first until a c ending
+  at-last ending one ends = record {
+    inputs = one.input ∷ so.inputs;
+    needed = one-needed one.input;
+    takes = takes-more a.told b.told c.told so.inputs (one.input ∷ []) so.takes one.takes;
+    unknown = (so.goes.unknown, so.unknown);
+    ends = ends;
+  }
+
+  turned : (ending : TryEnding) → TurnOf client tries b c (Err ending) → TryTakesTurn now b c (Err ending)
+  turned ending turn = turn now so.goes.stands so.goes.tries_are
+
+  known-last : (k : Known) → (one : TryAnswers now b c (Err (Ended (Knows k)))) → AttendsTries first until a c (Ended (Knows k))
+  known-last k one = at-last (Ended (Knows k)) one (one.goes.0.0, λ open_yet. absurd (one.goes.0.1 open_yet), more-given one.input one.goes.1)
+
+  pub tries-end : (ending : TryEnding) → TurnOf client tries b c (Err ending) → AttendsTries first until a c ending
+  tries-end (Ended (Knows known.Open)) turn =
+      let one = turned (Ended (Knows known.Open)) turn in
+      record {
+        inputs = so.inputs;
+        needed = so.needed;
+        takes = takes-still a.told b.told c.told so.inputs so.takes one.0.left;
+        unknown = so.unknown;
+        ends = (so.goes.unknown, λ open_yet. inr one.0.none, kept (offers_in_tries first so.inputs) (lines_in first so.inputs) a b c one.0.offered one.1 so.gives);
+      }
+  tries-end (Ended (Knows (known.Accepted digest))) turn = known-last (known.Accepted digest) (turned (Ended (Knows (known.Accepted digest))) turn)
+  tries-end (Ended (Knows (known.Aborted digest))) turn = known-last (known.Aborted digest) (turned (Ended (Knows (known.Aborted digest))) turn)
+  tries-end (Ended (Refused cause)) turn =
+      let one = turned (Ended (Refused cause)) turn in
+      at-last (Ended (Refused cause)) one
+      (one.goes.0, refused-gives one.goes.1)
+    where
+      refused-gives : Gives [] [] b c → GivesTries first so.inputs a c
+      refused-gives gives =
+          subst (λ (xs : Offers). Gives xs (lines_in first so.inputs) a c) (append-nil (offers_in_tries first so.inputs))
+          (subst (λ (ys : List ℕ). Gives (offers_in_tries first so.inputs ++ []) ys a c) (append-nil (lines_in first so.inputs))
+          (Gives-more a b c (offers_in_tries first so.inputs) [] (lines_in first so.inputs) [] so.gives gives))
+  tries-end (Ended LinkFault) turn =
+      let one = turned (Ended LinkFault) turn in
+      record {
+        inputs = so.inputs;
+        needed = so.needed;
+        takes = takes-still a.told b.told c.told so.inputs so.takes one.0.left;
+        unknown = so.unknown;
+        ends = (
+          one.0.missed ∙ ap (λ m. min (m + MOST_MISSED) (2 ^ 64 - 1)) so.missed,
+          so.goes.unknown,
+          kept (offers_in_tries first so.inputs) (lines_in first so.inputs) a b c one.0.offered one.1 so.gives,
+        );
+      }
+  tries-end (Ended Memory) turn = let one = turned (Ended Memory) turn in at-last (Ended Memory) one (more-part one.input one.goes.1)
+  tries-end WriteFault turn = let one = turned WriteFault turn in at-last WriteFault one (more-part one.input one.goes.1)

@@ -1,0 +1,9 @@
+//! A client whose call is made again after it was aborted, under the next number: its tries, what
+//! is printed of them, and the loop over a link.
+#![tactic(auto)]
+
+mod ending;
+mod trying;
+
+pub use ending::TryEnding;
+pub use trying::attend_tries;
