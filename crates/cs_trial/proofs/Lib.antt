@@ -1,0 +1,4 @@
+pub mod Closed
+pub mod Runs
+pub mod Turns
+mod Takes

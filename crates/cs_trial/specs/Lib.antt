@@ -1,0 +1,4 @@
+pub mod Outcomes
+pub mod Printed
+pub mod Trials
+pub mod Command
