@@ -1,0 +1,4 @@
+pub mod Declarings
+pub mod FrontLaws
+pub mod WantedLaws
+pub mod StandingLaws

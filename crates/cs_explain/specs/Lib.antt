@@ -1,0 +1,9 @@
+pub mod Words
+pub mod Fronts
+pub mod Wanted
+pub mod Found
+pub mod NameTokens
+pub mod Reasons
+pub mod Standing
+pub mod Explaining
+pub mod Notes

@@ -1,0 +1,148 @@
+//! How tokens are spelled.
+ghost use Rattle.std.specs.Prelude.{◌≡◌};
+ghost use Rattle.cs_explain.specs.Words.{spelling, label};
+
+use cs_lang_token::Kind;
+
+/// All kinds of tokens, in the order in which they are told: what ends a part or joins it to the
+/// next, then words from the outside in, then operators, then what an expression begins with. Of
+/// these what is most often meant comes first.
+pub const ORDER: [Kind; 58] = [
+    Kind::Semicolon,
+    Kind::Becomes,
+    Kind::Colon,
+    Kind::Close,
+    Kind::CloseList,
+    Kind::OpenBlock,
+    Kind::Comma,
+    Kind::Type,
+    Kind::Method,
+    Kind::Consumes,
+    Kind::Reads,
+    Kind::Takes,
+    Kind::Creates,
+    Kind::Returns,
+    Kind::Procedure,
+    Kind::Check,
+    Kind::Let,
+    Kind::Set,
+    Kind::If,
+    Kind::For,
+    Kind::Make,
+    Kind::Call,
+    Kind::Answer,
+    Kind::CloseBlock,
+    Kind::Else,
+    Kind::In,
+    Kind::To,
+    Kind::IntKind,
+    Kind::BoolKind,
+    Kind::BytesKind,
+    Kind::Equal,
+    Kind::And,
+    Kind::Or,
+    Kind::NotEqual,
+    Kind::Less,
+    Kind::LessOrEqual,
+    Kind::Greater,
+    Kind::GreaterOrEqual,
+    Kind::Plus,
+    Kind::Star,
+    Kind::Slash,
+    Kind::Percent,
+    Kind::Dot,
+    Kind::Bytes,
+    Kind::Not,
+    Kind::Empty,
+    Kind::Name,
+    Kind::Number,
+    Kind::Open,
+    Kind::OpenList,
+    Kind::Minus,
+    Kind::True,
+    Kind::False,
+    Kind::Len,
+    Kind::Sha256,
+    Kind::Concat,
+    Kind::Called,
+    Kind::DepInt,
+];
+
+/// A token of the kind, as it is written: of names, numbers and byte texts one of them.
+pub fn spelling(kind: Kind) -> &'static str
+    ensures { result.now ≡ spelling kind }
+{
+    match kind {
+        Kind::Name => "a",
+        Kind::Number => "0",
+        Kind::Bytes => "x\"\"",
+        Kind::Open => "(",
+        Kind::Close => ")",
+        Kind::OpenBlock => "{",
+        Kind::CloseBlock => "}",
+        Kind::OpenList => "[",
+        Kind::CloseList => "]",
+        Kind::Comma => ",",
+        Kind::Semicolon => ";",
+        Kind::Colon => ":",
+        Kind::Dot => ".",
+        Kind::Star => "*",
+        Kind::Becomes => "=",
+        Kind::Equal => "==",
+        Kind::NotEqual => "!=",
+        Kind::Less => "<",
+        Kind::LessOrEqual => "<=",
+        Kind::Greater => ">",
+        Kind::GreaterOrEqual => ">=",
+        Kind::Plus => "+",
+        Kind::Minus => "-",
+        Kind::Slash => "/",
+        Kind::Percent => "%",
+        Kind::Type => "type",
+        Kind::Method => "method",
+        Kind::Consumes => "consumes",
+        Kind::Reads => "reads",
+        Kind::Takes => "takes",
+        Kind::Creates => "creates",
+        Kind::Returns => "returns",
+        Kind::Procedure => "procedure",
+        Kind::Check => "check",
+        Kind::Let => "let",
+        Kind::Set => "set",
+        Kind::If => "if",
+        Kind::Else => "else",
+        Kind::For => "for",
+        Kind::In => "in",
+        Kind::To => "to",
+        Kind::Make => "make",
+        Kind::Call => "call",
+        Kind::Answer => "answer",
+        Kind::And => "and",
+        Kind::Or => "or",
+        Kind::Not => "not",
+        Kind::True => "true",
+        Kind::False => "false",
+        Kind::Empty => "empty",
+        Kind::IntKind => "int",
+        Kind::BoolKind => "bool",
+        Kind::BytesKind => "bytes",
+        Kind::Len => "len",
+        Kind::Sha256 => "sha256",
+        Kind::Concat => "concat",
+        Kind::Called => "called",
+        Kind::DepInt => "depint",
+    }
+}
+
+/// What a kind of tokens is called: of names, numbers and byte texts the word that the grammar has
+/// for them, of others the token.
+pub fn label(kind: Kind) -> &'static str
+    ensures { result.now ≡ label kind }
+{
+    match kind {
+        Kind::Name => "NAME",
+        Kind::Number => "NUMBER",
+        Kind::Bytes => "BYTES",
+        other => spelling(other),
+    }
+}
