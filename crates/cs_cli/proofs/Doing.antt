@@ -3,12 +3,13 @@ use Rattle.std.proofs.Common.{◌≡◌, ℕ, List, Option, Some, sym, subst}
 use Rattle.cs_base.specs.declared.key.Key.{Key}
 use Rattle.cs_io.specs.Outside.{Outside}
 use Rattle.cs_io.specs.declared.until.Until.{Until}
+use Rattle.cs_wallet.specs.declared.calls.WalletCall.{WalletCall}
 use Rattle.cs_cli.specs.declared.words.Command.{Command}
-use Rattle.cs_cli.specs.declared.words.Command.TheVariants.{ReadKeys}
+use Rattle.cs_cli.specs.declared.words.Command.TheVariants.{Try, ReadKeys, Wallet}
 use Rattle.cs_cli.specs.declared.deployments.Deployment.{Deployment}
-use Rattle.cs_cli.specs.declared.deployments.Deployment.TheVariants.{Node, Client, Show, Keys, Cluster}
+use Rattle.cs_cli.specs.declared.deployments.Deployment.TheVariants.{Node, Client, ClientTries, ClientSession, Show, Keys, Cluster}
 use Rattle.cs_cli.specs.Deployed.{word_at, word_if}
-use Rattle.cs_cli.specs.Done.{NodeDoes, ClientDoes, ShowDoes, KeysDoes, ClusterDoes, DeploymentDoes, ReadKeysDoes, CommandDoes}
+use Rattle.cs_cli.specs.Done.{NodeDoes, ClientDoes, TriesDo, SessionDoes, ShowDoes, KeysDoes, ClusterDoes, DeploymentDoes, WalletDoes, ReadKeysDoes, TryDoes, CommandDoes}
 use Rattle.cs_cli.proofs.Outcomes.{one-command}
 
 module _ (words : List (List ℕ)) (a b : Outside) (status : ℕ) where
@@ -18,9 +19,17 @@ module _ (words : List (List ℕ)) (a b : Outside) (status : ℕ) where
   pub does-so : (x command : Command) → command ≡ x → CommandDoes x words a b status → CommandDoes command words a b status
   does-so x command is = subst (λ (z : Command). CommandDoes z words a b status) (sym is)
 
+  pub wallet-does : (call : WalletCall) (s : List ℕ) (command : Command) → command ≡ Wallet call → s ≡ word_at words 2 → WalletDoes call s a b status → CommandDoes command words a b status
+  wallet-does call s command is first does =
+      does-so (Wallet call) command is (subst (λ (x : List ℕ). WalletDoes call x a b status) first does)
+
   pub read-keys-does : (site : ℕ) (s : List ℕ) (command : Command) → command ≡ ReadKeys site → s ≡ word_at words site → ReadKeysDoes s a b status → CommandDoes command words a b status
   read-keys-does site s command is first does =
       does-so (ReadKeys site) command is (subst (λ (x : List ℕ). ReadKeysDoes x a b status) first does)
+
+  pub try-does : (file : ℕ) (s : List ℕ) (command : Command) → command ≡ Try file → s ≡ word_at words file → TryDoes s a b status → CommandDoes command words a b status
+  try-does file s command is first does =
+      does-so (Try file) command is (subst (λ (x : List ℕ). TryDoes x a b status) first does)
 
 module _ (words : List (List ℕ)) (a b : Outside) (status : ℕ) where
   deploys-so : (x deployment : Deployment) → deployment ≡ x → DeploymentDoes x words a b status → DeploymentDoes deployment words a b status
@@ -42,6 +51,25 @@ module _ (words : List (List ℕ)) (a b : Outside) (status : ℕ) where
       (subst (λ (x : List ℕ). ClientDoes s x (word_at words call) (word_if words hosts) until a b status) second
       (subst (λ (x : List ℕ). ClientDoes s k x (word_if words hosts) until a b status) third
       (subst (λ (x : Option (List ℕ)). ClientDoes s k c x until a b status) fourth does))))
+
+  pub tries-do : (site keys call : ℕ) (hosts : Option ℕ) (tries : ℕ) (until : Until) (s k c : List ℕ) (h : Option (List ℕ)) (deployment : Deployment) → deployment ≡ ClientTries site keys call hosts tries until → s ≡ word_at words site → k ≡ word_at words keys → c ≡ word_at words call → h ≡ word_if words hosts
+      → TriesDo s k c h tries until a b status → DeploymentDoes deployment words a b status
+  tries-do site keys call hosts tries until s k c h deployment is first second third fourth does =
+      deploys-so (ClientTries site keys call hosts tries until) deployment is
+      (subst (λ (x : List ℕ). TriesDo x (word_at words keys) (word_at words call) (word_if words hosts) tries until a b status) first
+      (subst (λ (x : List ℕ). TriesDo s x (word_at words call) (word_if words hosts) tries until a b status) second
+      (subst (λ (x : List ℕ). TriesDo s k x (word_if words hosts) tries until a b status) third
+      (subst (λ (x : Option (List ℕ)). TriesDo s k c x tries until a b status) fourth does))))
+
+  pub session-does : (site keys call : ℕ) (hosts : Option ℕ) (session : ℕ) (until : Until) (s k c : List ℕ) (h : Option (List ℕ)) (m : List ℕ) (deployment : Deployment) → deployment ≡ ClientSession site keys call hosts session until → s ≡ word_at words site → k ≡ word_at words keys → c ≡ word_at words call → h ≡ word_if words hosts → m ≡ word_at words session
+      → SessionDoes s k c h m until a b status → DeploymentDoes deployment words a b status
+  session-does site keys call hosts session until s k c h m deployment is first second third fourth fifth does =
+      deploys-so (ClientSession site keys call hosts session until) deployment is
+      (subst (λ (x : List ℕ). SessionDoes x (word_at words keys) (word_at words call) (word_if words hosts) (word_at words session) until a b status) first
+      (subst (λ (x : List ℕ). SessionDoes s x (word_at words call) (word_if words hosts) (word_at words session) until a b status) second
+      (subst (λ (x : List ℕ). SessionDoes s k x (word_if words hosts) (word_at words session) until a b status) third
+      (subst (λ (x : Option (List ℕ)). SessionDoes s k c x (word_at words session) until a b status) fourth
+      (subst (λ (x : List ℕ). SessionDoes s k c h x until a b status) fifth does)))))
 
   pub show-does : (site keys : ℕ) (key : Key) (hosts : Option ℕ) (until : Until) (s k : List ℕ) (h : Option (List ℕ)) (deployment : Deployment) → deployment ≡ Show site keys key hosts until → s ≡ word_at words site → k ≡ word_at words keys → h ≡ word_if words hosts
       → ShowDoes s k h key until a b status → DeploymentDoes deployment words a b status

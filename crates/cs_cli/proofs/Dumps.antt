@@ -4,7 +4,7 @@ use Rattle.std.specs.List.{AllByRecursion, position_from}
 use Rattle.std.proofs.lemmas.List.Elements.{recursion_from_All}
 use Rattle.cs_types.specs.Accepting.{is_refused}
 use Rattle.cs_sched.specs.Playable.{IsContractText}
-use Rattle.cs_approve.specs.Approval.{is_approved_by}
+use Rattle.cs_native.specs.Approval.{is_approved_by}
 use Rattle.cs_approve.specs.Books.{first_refused}
 use Rattle.cs_audit_dump.specs.declared.dump.Dump.{Dump}
 use Rattle.cs_audit_dump.specs.Formed.{IsFormed}

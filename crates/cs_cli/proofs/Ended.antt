@@ -10,7 +10,7 @@ use Rattle.cs_io.proofs.Closings.{closed, closing-other, closing-failed}
 use Rattle.cs_tx_value.specs.declared.object.Object.{Object}
 use Rattle.cs_tx_types.specs.declared.transaction.Tx.{Tx}
 use Rattle.cs_order_rules.specs.declared.message.OrderMessage.{OrderMessage}
-use Rattle.cs_approve.specs.Approval.{is_approved_by}
+use Rattle.cs_native.specs.Approval.{is_approved_by}
 use Rattle.cs_text.specs.declared.cause.Cause.TheVariants.{Limit}
 use Rattle.cs_sched.specs.declared.schedule.Schedule.{Schedule}
 use Rattle.cs_node_rules.specs.Site.{Site}

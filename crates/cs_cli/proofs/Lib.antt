@@ -6,6 +6,7 @@ pub mod Told
 pub mod Dumps
 pub mod Doing
 pub mod Behind
+pub mod BehindAll
 pub mod Leaving
 pub mod LimitNumbers
 pub mod Subjects

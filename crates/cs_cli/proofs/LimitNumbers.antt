@@ -15,6 +15,10 @@ deployment-limits = record {
   missed = refl;
   file = refl;
   master = refl;
+  wallet = refl;
+  used = refl;
+  number = refl;
+  tries = refl;
 }
 
 pub text-limits : TextLimitsAre

@@ -7,9 +7,10 @@ use Rattle.cs_io.specs.Numbers.{short_number}
 use Rattle.cs_gen.specs.declared.limits.TheConstants.{MOST_SIZE}
 use Rattle.cs_cli.specs.Numbers.{size_in, both_numbers, simulated}
 use Rattle.cs_cli.specs.Deployed.{reads_master, deployment_of_word}
-use Rattle.cs_cli.specs.Words.{plain_mode, mode_from, flagged, plain_command, topic_called, command_of}
+use Rattle.cs_cli.specs.Words.{plain_mode, mode_from, plain_contract, contract_mode_from, plain_command, topic_called, command_of, file_called}
 use Rattle.cs_cli.specs.declared.words.Command.{Command}
-use Rattle.cs_cli.specs.declared.words.Command.TheVariants.{Replay, Contract, Verify, Audit, Simulate, Help, Version, ReadKeys, Deploy}
+use Rattle.cs_cli.specs.declared.words.Command.TheVariants.{Replay, Contract, Try, Verify, Audit, Simulate, Help, Version, Wallet, ReadKeys, Deploy}
+use Rattle.cs_cli.specs.Wallets.{wallet_called}
 
 -- ---- its size is within the limit
 
@@ -79,11 +80,13 @@ pub command-small : (words : List (List ℕ)) (number size : ℕ) → command_of
 command-small [] number size = none-small number size
 command-small (word ∷ options) number size =
     either-small number size (bytes_eq word (codes "replay")) _ _ (other-small number size Replay (λ mode q. cc) (mode_from plain_mode options))
-    (either-small number size (bytes_eq word (codes "contract")) _ _ (other-small number size Contract (λ printing q. cc) (flagged (codes "--print") options))
+    (either-small number size (bytes_eq word (codes "contract")) _ _ (other-small number size Contract (λ mode q. cc) (contract_mode_from plain_contract options))
+    (either-small number size (bytes_eq word (codes "try")) _ _ (other-small number size Try (λ file q. cc) (file_called options))
     (either-small number size (bytes_eq word (codes "verify")) _ _ (no-plain Verify options number size (λ q. cc))
     (either-small number size (bytes_eq word (codes "audit")) _ _ (no-plain Audit options number size (λ q. cc))
     (either-small number size (bytes_eq word (codes "simulate")) _ _ (said-small (simulated options) number size (simulated-small options))
     (either-small number size (bytes_eq word (codes "help")) _ _ (other-small number size Help (λ topic q. cc) (topic_called options))
     (either-small number size (bytes_eq word (codes "version")) _ _ (no-plain Version options number size (λ q. cc))
+    (either-small number size (bytes_eq word (codes "wallet")) _ _ (other-small number size Wallet (λ call q. cc) (wallet_called options))
     (either-small number size (bytes_eq word (codes "keys") && reads_master options) _ _ (keys-small number size)
-    (other-small number size Deploy (λ deployment q. cc) (deployment_of_word word options)))))))))
+    (other-small number size Deploy (λ deployment q. cc) (deployment_of_word word options)))))))))))

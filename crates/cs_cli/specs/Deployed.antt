@@ -10,7 +10,8 @@ use Rattle.cs_deploy.specs.Master.{master_in}
 use Rattle.cs_io.specs.declared.until.Until.{Until}
 use Rattle.cs_io.specs.declared.until.Until.TheVariants.{Turns, Ticks}
 use Rattle.cs_cli.specs.declared.deployments.Deployment.{Deployment}
-use Rattle.cs_cli.specs.declared.deployments.Deployment.TheVariants.{Node, Client, Show, Keys, Cluster}
+use Rattle.cs_cli.specs.declared.deployments.Deployment.TheVariants.{Node, Client, ClientTries, ClientSession, Show, Keys, Cluster}
+use Rattle.cs_cli.specs.Wished.{wished}
 
 -- the word at a place; the command's own is at 0
 abbrev pub word_at : List (List ℕ) → ℕ → List ℕ
@@ -114,6 +115,8 @@ place_among before place = if nat_le place before then place else place + 2
 abbrev pub StandsNear : Deployment → Type 0
 StandsNear (Node site keys hosts until) = (site ≤ 5) × (keys ≤ 5)
 StandsNear (Client site keys call hosts until) = (site ≤ 5) × (keys ≤ 5) × (call ≤ 5)
+StandsNear (ClientTries site keys call hosts tries until) = Unit {0}
+StandsNear (ClientSession site keys call hosts session until) = Unit {0}
 StandsNear (Show site keys key hosts until) = (site ≤ 5) × (keys ≤ 5)
 StandsNear (Keys site master) = Unit {0}
 StandsNear (Cluster plan) = Unit {0}
@@ -124,6 +127,9 @@ with_hosts before (Node site keys hosts until) =
     Node (place_among before site) (place_among before keys) (Some (before + 2)) until
 with_hosts before (Client site keys call hosts until) =
     Client (place_among before site) (place_among before keys) (place_among before call) (Some (before + 2)) until
+with_hosts before (ClientTries site keys call hosts tries until) = ClientTries site keys call hosts tries until
+with_hosts before (ClientSession site keys call hosts session until) =
+    ClientSession site keys call hosts session until
 with_hosts before (Show site keys key hosts until) =
     Show (place_among before site) (place_among before keys) key (Some (before + 2)) until
 with_hosts before (Keys site master) = Keys site master
@@ -162,4 +168,4 @@ abbrev pub deployment_of_word : List ℕ → List (List ℕ) → Option Deployme
 deployment_of_word word options =
     if bytes_eq word (codes "keys") then keys_called options
     else if bytes_eq word (codes "cluster") then cluster_called options
-    else hosted (run_called word) options
+    else wished (hosted (run_called word)) options

@@ -1,5 +1,5 @@
 -- What each command does, by what the objects of the outside told before and after.
-use Rattle.std.specs.Prelude.{◌≡◌, ℕ, Bool, List, Option}
+use Rattle.std.specs.Prelude.{◌≡◌, ℕ, List, Option}
 use Rattle.std.specs.Io.KnownBytes.{Keeps}
 use Rattle.cs_base.specs.Answers.{Answers}
 use Rattle.cs_base.specs.declared.key.Key.{Key}
@@ -23,16 +23,22 @@ use Rattle.cs_deploy.specs.ReadKeys.{ReadKeysRuns, EndsAsRead}
 use Rattle.cs_deploy.specs.Cluster.{ClusterRuns}
 use Rattle.cs_deploy.specs.Node.{NodeRuns}
 use Rattle.cs_deploy.specs.Client.{ClientRuns, IsToldOf}
+use Rattle.cs_deploy.specs.Tries.{TriesRun}
+use Rattle.cs_deploy.specs.Session.{SessionRuns}
 use Rattle.cs_deploy.specs.Show.{show_taken, ShowRuns}
+use Rattle.cs_trial.specs.Command.{TryRuns, TryWhole}
+use Rattle.cs_wallet.specs.Commands.{WalletRuns, WalletDecided}
+use Rattle.cs_wallet.specs.declared.calls.WalletCall.{WalletCall}
 use Rattle.cs_cli.specs.Answers.{TellsSource, TellsWhole}
+use Rattle.cs_cli.specs.declared.report.ContractMode.{ContractMode}
 use Rattle.cs_cli.specs.Examined.{most_in, examined_answer}
 use Rattle.cs_cli.specs.Deployed.{word_at, word_if}
 use Rattle.cs_cli.specs.declared.examining.Subject.{Subject}
 use Rattle.cs_cli.specs.declared.examining.Subject.TheVariants.{Claim, Dump}
 use Rattle.cs_cli.specs.declared.deployments.Deployment.{Deployment}
-use Rattle.cs_cli.specs.declared.deployments.Deployment.TheVariants.{Node, Client, Show, Keys, Cluster}
+use Rattle.cs_cli.specs.declared.deployments.Deployment.TheVariants.{Node, Client, ClientTries, ClientSession, Show, Keys, Cluster}
 use Rattle.cs_cli.specs.declared.words.Command.{Command}
-use Rattle.cs_cli.specs.declared.words.Command.TheVariants.{Replay, Contract, Verify, Audit, Simulate, Help, Version, ReadKeys, Deploy}
+use Rattle.cs_cli.specs.declared.words.Command.TheVariants.{Replay, Contract, Try, Verify, Audit, Simulate, Help, Version, Wallet, ReadKeys, Deploy}
 
 -- ---- what decides where no fault came about
 
@@ -64,11 +70,20 @@ pub record ReplayDoes (mode : Mode) (old new : Outside) (status : ℕ) : Type 0 
       → Completes MOST_SCHEDULE mode old.source.told old.sink.told new.sink.told status
 
 -- `contract` tells of the contract that the source holds, or of its first fault
-pub record ContractDoes (printing : Bool) (old new : Outside) (status : ℕ) : Type 0 where
-  pub tells : TellsSource printing old.source.told new.source.told old.sink.told new.sink.told
+pub record ContractDoes (mode : ContractMode) (old new : Outside) (status : ℕ) : Type 0 where
+  pub tells : TellsSource mode old.source.told new.source.told old.sink.told new.sink.told
       (Faulty faults_of old.source new.source) status
   pub whole : Faultless faults_of old.source new.source → Faultless faults_of old.sink new.sink
-      → TellsWhole printing old.source.told old.sink.told new.sink.told status
+      → TellsWhole mode old.source.told old.sink.told new.sink.told status
+
+-- `try` tells of the cases that the source holds, of the contract of its file
+pub record TryDoes (file : List ℕ) (old new : Outside) (status : ℕ) : Type 0 where
+  pub runs : TryRuns file (Faulty faults_of old.store new.store) (Faulty faults_of old.source new.source)
+      old.store.told old.source.told new.source.told old.sink.told new.sink.told status
+  pub kept : Stays old.store.told new.store.told
+  pub whole : Faultless faults_of old.store new.store → Faultless faults_of old.source new.source
+      → Faultless faults_of old.sink new.sink
+      → TryWhole file old.store.told old.source.told old.sink.told new.sink.told status
 
 -- `verify` and `audit` answer what the claim or the dump comes to that the source holds
 pub record ExamineDoes (subject : Subject) (old new : Outside) (status : ℕ) : Type 0 where
@@ -111,6 +126,26 @@ pub record ClientDoes (site keys call : List ℕ) (hosts : Option (List ℕ)) (u
   pub whole : Faultless faults_of old.store new.store → Faultless faults_of old.link new.link
       → Faultless faults_of old.sink new.sink → ClientDecided site keys call hosts old.store.told status
 
+-- with `--tries N` it makes its call again after it was aborted, under the next number
+pub record TriesDo (site keys call : List ℕ) (hosts : Option (List ℕ)) (tries : ℕ) (until : Until) (old new : Outside)
+    (status : ℕ) : Type 0 where
+  pub runs : TriesRun site keys call hosts tries until
+      (Faulty faults_of old.store new.store) (Faulty faults_of old.link new.link)
+      old.store.told (beside old.link.told old.sink.told) (beside new.link.told new.sink.told) status
+  pub kept : Stays old.store.told new.store.told
+  pub whole : Faultless faults_of old.store new.store → Faultless faults_of old.link new.link
+      → Faultless faults_of old.sink new.sink → ClientDecided site keys call hosts old.store.told status
+
+-- with `--session HEX` it submits that session of its call, which was made before
+pub record SessionDoes (site keys call : List ℕ) (hosts : Option (List ℕ)) (session : List ℕ) (until : Until)
+    (old new : Outside) (status : ℕ) : Type 0 where
+  pub runs : SessionRuns site keys call hosts session until
+      (Faulty faults_of old.store new.store) (Faulty faults_of old.link new.link)
+      old.store.told (beside old.link.told old.sink.told) (beside new.link.told new.sink.told) status
+  pub kept : Stays old.store.told new.store.told
+  pub whole : Faultless faults_of old.store new.store → Faultless faults_of old.link new.link
+      → Faultless faults_of old.sink new.sink → ClientDecided site keys call hosts old.store.told status
+
 -- `show` looks a key up by its files, until f+1 nodes have told one state of it
 pub record ShowDoes (site keys : List ℕ) (hosts : Option (List ℕ)) (key : Key) (until : Until) (old new : Outside)
     (status : ℕ) : Type 0 where
@@ -135,6 +170,13 @@ pub record ReadKeysDoes (site : List ℕ) (old new : Outside) (status : ℕ) : T
   pub whole : Faultless faults_of old.store new.store → Faultless faults_of old.source new.source
       → Faultless faults_of old.sink new.sink → ReadKeysDecided site old.source.told old.store.told status
 
+-- `wallet` makes a wallet, or tells a key, or signs, by its file
+pub record WalletDoes (call : WalletCall) (name : List ℕ) (old new : Outside) (status : ℕ) : Type 0 where
+  pub runs : WalletRuns call name (Faulty faults_of old.store new.store) old.store.told new.store.told
+      old.sink.told new.sink.told status
+  pub whole : Faultless faults_of old.store new.store → Faultless faults_of old.sink new.sink
+      → WalletDecided call name old.store.told status
+
 -- `cluster` saves the key files of its plan, and then runs the nodes of its plan and its calls
 pub record ClusterDoes (plan : List ℕ) (old new : Outside) (status : ℕ) : Type 0 where
   pub runs : ClusterRuns plan (Faulty faults_of old.store new.store) (Faulty faults_of old.spawner new.spawner)
@@ -150,6 +192,11 @@ DeploymentDoes (Node site keys hosts until) words =
     NodeDoes (word_at words site) (word_at words keys) (word_if words hosts) until
 DeploymentDoes (Client site keys call hosts until) words =
     ClientDoes (word_at words site) (word_at words keys) (word_at words call) (word_if words hosts) until
+DeploymentDoes (ClientTries site keys call hosts tries until) words =
+    TriesDo (word_at words site) (word_at words keys) (word_at words call) (word_if words hosts) tries until
+DeploymentDoes (ClientSession site keys call hosts session until) words =
+    SessionDoes (word_at words site) (word_at words keys) (word_at words call) (word_if words hosts)
+    (word_at words session) until
 DeploymentDoes (Show site keys key hosts until) words =
     ShowDoes (word_at words site) (word_at words keys) (word_if words hosts) key until
 DeploymentDoes (Keys site master) words = KeysDoes (word_at words site) master
@@ -158,11 +205,13 @@ DeploymentDoes (Cluster plan) words = ClusterDoes (word_at words plan)
 -- what a command does, whose files are among the words
 abbrev pub CommandDoes : Command → List (List ℕ) → Outside → Outside → ℕ → Type 0
 CommandDoes (Replay mode) words = ReplayDoes mode
-CommandDoes (Contract printing) words = ContractDoes printing
+CommandDoes (Contract mode) words = ContractDoes mode
+CommandDoes (Try file) words = TryDoes (word_at words file)
 CommandDoes Verify words = ExamineDoes Claim
 CommandDoes Audit words = ExamineDoes Dump
 CommandDoes (Simulate number size) words = SimulateDoes number size
 CommandDoes (Help topic) words = TextDoes (help_text topic)
 CommandDoes Version words = TextDoes version_text
+CommandDoes (Wallet call) words = WalletDoes call (word_at words 2)
 CommandDoes (ReadKeys site) words = ReadKeysDoes (word_at words site)
 CommandDoes (Deploy deployment) words = DeploymentDoes deployment words

@@ -8,9 +8,11 @@ use Rattle.cs_lang_token.specs.declared.limits.TheConstants.{MOST_TEXT, MOST_COS
 use Rattle.cs_sched.specs.declared.limits.TheConstants.{MOST_CONTRACTS}
 use Rattle.cs_gen.specs.declared.limits.TheConstants.{MOST_SIZE}
 use Rattle.cs_config.specs.declared.limits.TheConstants.{LEAST_TICK, MOST_TICK}
+use Rattle.cs_onetime.specs.declared.wallet.TheConstants.{LAST_NUMBER, MOST_USED}
+use Rattle.cs_wallet.specs.declared.loading.TheConstants.{MOST_WALLET}
 use Rattle.cs_serve.specs.declared.receiving.TheConstants.{MOST_MISSED}
 use Rattle.cs_deploy.specs.declared.loading.TheConstants.{MOST_FILE}
-use Rattle.cs_deploy.specs.declared.limits.TheConstants.{MOST_MASTER}
+use Rattle.cs_deploy.specs.declared.limits.TheConstants.{MOST_MASTER, MOST_TRIES}
 use Rattle.cs_audit_dump.specs.declared.limits.TheConstants.{MOST_DUMP}
 
 -- those of a deployment
@@ -26,6 +28,10 @@ pub record DeploymentLimitsAre : Type 0 where
   pub missed : MOST_MISSED ≡ 64  -- receives that fail in a row
   pub file : MOST_FILE ≡ 16777216  -- bytes
   pub master : MOST_MASTER ≡ 65  -- bytes of a master key that is read
+  pub wallet : MOST_WALLET ≡ 16777216  -- bytes
+  pub used : MOST_USED ≡ 65536  -- numbers of a wallet that have signed
+  pub number : LAST_NUMBER ≡ 9223372036854775807  -- of a key
+  pub tries : MOST_TRIES ≡ 64  -- of a call
 
 -- those of texts
 pub record TextLimitsAre : Type 0 where

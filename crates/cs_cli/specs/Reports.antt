@@ -10,6 +10,9 @@ use Rattle.cs_lang.specs.Texts.{IsContract}
 use Rattle.cs_lang_print.specs.Texts.{contract_text}
 use Rattle.cs_types_kinds.specs.declared.scope.Costs.{Costs}
 use Rattle.cs_types.specs.Accepted.{accepted_costs}
+use Rattle.cs_explain.specs.Explaining.{explained_text}
+use Rattle.cs_explain.specs.Notes.{notes_of}
+use Rattle.cs_cli.specs.declared.report.ContractMode.{ContractMode}
 use Rattle.cs_cli.specs.declared.report.Report.{Report}
 use Rattle.cs_types.specs.declared.fault.Fault.{Fault}
 use Rattle.cs_types.specs.Faults.{IsFault, fault_status, fault_text}
@@ -31,33 +34,42 @@ abbrev pub description : List ℕ → ContractTree → List Costs → List ℕ
 description text contract costs =
     codes "contract " ++ bytes_text (sha256 text) ++ 10 ∷ method_lines contract.methods costs
 
+-- with notes behind them, where they are asked for
+abbrev pub described : Bool → List ℕ → ContractTree → List Costs → List ℕ
+described explaining text contract costs =
+    if explaining then description text contract costs ++ notes_of text contract else description text contract costs
+
 -- what is told of a contract that is accepted with these costs
-abbrev pub accepted_answer : Bool → List ℕ → ContractTree → List Costs → Answer
-accepted_answer printing text contract costs = record {
+abbrev pub accepted_answer : ContractMode → List ℕ → ContractTree → List Costs → Answer
+accepted_answer mode text contract costs = record {
   status = 0;
-  printed = if printing then contract_text contract else description text contract costs;
+  printed = if mode.printing then contract_text contract else described mode.explaining text contract costs;
 }
 
 -- what a report tells
 abbrev pub report_answer : Report → Answer
 report_answer report = record { status = report.status; printed = report.printed.items }
 
-abbrev pub fault_answer : List ℕ → Fault → Answer
-fault_answer text fault = record { status = fault_status fault; printed = fault_text text fault }
+-- the line of a fault, with what explains it where that is asked for
+abbrev pub refused_text : Bool → List ℕ → Fault → List ℕ
+refused_text explaining text fault = if explaining then explained_text text fault else fault_text text fault
+
+abbrev pub fault_answer : ContractMode → List ℕ → Fault → Answer
+fault_answer mode text fault = record { status = fault_status fault; printed = refused_text mode.explaining text fault }
 
 -- the text is a contract that is accepted, and this is told of it
-pub record IsAccepting (printing : Bool) (text : List ℕ) (answer : Answer) : Type 0 where
+pub record IsAccepting (mode : ContractMode) (text : List ℕ) (answer : Answer) : Type 0 where
   pub contract : ContractTree
   pub costs : List Costs
   pub spelled : IsContract text contract
   pub accepted : accepted_costs contract ≡ Ok costs
-  pub told : answer ≡ accepted_answer printing text contract costs
+  pub told : answer ≡ accepted_answer mode text contract costs
 
 -- the text has a fault, and this is told of it
-pub record IsRefusing (text : List ℕ) (answer : Answer) : Type 0 where
+pub record IsRefusing (mode : ContractMode) (text : List ℕ) (answer : Answer) : Type 0 where
   pub fault : Fault
   pub has : IsFault text fault
-  pub told : answer ≡ fault_answer text fault
+  pub told : answer ≡ fault_answer mode text fault
 
-abbrev pub IsReport : Bool → List ℕ → Answer → Type 0
-IsReport printing text answer = IsAccepting printing text answer ⊎ IsRefusing text answer
+abbrev pub IsReport : ContractMode → List ℕ → Answer → Type 0
+IsReport mode text answer = IsAccepting mode text answer ⊎ IsRefusing mode text answer

@@ -4,7 +4,7 @@ use Rattle.std.specs.Fmt.{decimal}
 use Rattle.cs_base.specs.Answers.{Answer}
 use Rattle.cs_tx_types.specs.declared.transaction.Tx.{Tx}
 use Rattle.cs_order_rules.specs.declared.message.OrderMessage.{OrderMessage}
-use Rattle.cs_approve.specs.Approval.{is_approved_by}
+use Rattle.cs_native.specs.Approval.{is_approved_by}
 use Rattle.cs_sched.specs.declared.schedule.Schedule.{Schedule}
 use Rattle.cs_text.specs.declared.cause.Cause.TheVariants.{Key, Limit}
 use Rattle.cs_replay_rules.specs.Lines.{forged_line}

@@ -2,7 +2,7 @@
 ghost use Rattle.std.specs.Prelude.{◌≡◌, ◌≢◌, ℕ, List, Ok, Err};
 ghost use Rattle.cs_base.specs.Outside.{HasCause};
 ghost use Rattle.cs_base.specs.Answers.{Answers};
-ghost use Rattle.cs_approve.specs.Approval.{is_approved};
+ghost use Rattle.cs_native.specs.Approval.{is_approved_with_rules};
 ghost use Rattle.cs_audit_dump.specs.Formed.{IsFormed};
 ghost use Rattle.cs_audit_dump.specs.Text.{dump_of};
 ghost use Rattle.cs_audit_dump.specs.declared.dump.Dump.{Dump as AnyDump};
@@ -16,6 +16,7 @@ use cs_audit::{Verdict, audit, verdict_status, verdict_text};
 use cs_audit_dump::{Dump, parse_dump};
 use cs_base::{Sink, print};
 use cs_io::closing;
+use cs_native::RuledBook;
 use cs_text::{Refusal, TextError, refusal_line};
 use std::alloc::Global;
 
@@ -51,16 +52,19 @@ fn audit_dump<K: Sink>(alloc: Global, dump: &Dump, output: &mut K) -> u8
     ensures write_fault { HasCause (K.faults output.old) (K.faults output.new) (result ≡ 6) }
 {
     match Book::new(alloc, dump.contracts.as_slice()) {
-        Ok(book) => audit_by(alloc, dump, &book, output),
+        Ok(book) => {
+            let ruled = RuledBook::new(book);
+            audit_by(alloc, dump, &ruled, output)
+        }
         Err(BookError::Memory) => 8,
         // The contracts of a dump are accepted.
         Err(BookError::Refused(..)) => unreachable!(),
     }
 }
 
-fn audit_by<K: Sink>(alloc: Global, dump: &Dump, book: &Book, output: &mut K) -> u8
+fn audit_by<K: Sink>(alloc: Global, dump: &Dump, book: &RuledBook, output: &mut K) -> u8
     requires { IsFormed dump.now }
-    ensures answers { Answers (verdict_answer (verdict_of (is_approved book.now) dump.now))
+    ensures answers { Answers (verdict_answer (verdict_of (is_approved_with_rules book.now) dump.now))
         (K.written output.old) (K.written output.new) result }
     ensures only { (result ≢ 2) × (result ≢ 5) }
     ensures write_fault { HasCause (K.faults output.old) (K.faults output.new) (result ≡ 6) }

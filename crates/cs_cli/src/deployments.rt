@@ -3,7 +3,7 @@ ghost use Rattle.std.specs.Prelude.{◌≡◌, option_copied};
 ghost use Rattle.cs_cli.specs.Words.{texts_of};
 ghost use Rattle.cs_cli.specs.Deployed.{word_at, word_if, is_file, keys_called, reads_master, cluster_called, deployment_of_word};
 
-use crate::runs::read_run;
+use crate::wishes::read_wished;
 use cs_base::Key;
 use cs_deploy::master_in;
 use cs_io::Until;
@@ -27,6 +27,26 @@ pub enum Deployment {
         keys: usize,
         call: usize,
         hosts: Option<usize>,
+        until: Until,
+    },
+    /// The same, with so many tries at most: after one that was aborted the call is made again under
+    /// the next number.
+    ClientTries {
+        site: usize,
+        keys: usize,
+        call: usize,
+        hosts: Option<usize>,
+        tries: u64,
+        until: Until,
+    },
+    /// The same, which submits the session of its call that stands at this place among the words, by
+    /// its encoding in hex.
+    ClientSession {
+        site: usize,
+        keys: usize,
+        call: usize,
+        hosts: Option<usize>,
+        session: usize,
         until: Until,
     },
     /// Looks a key up, by a site file and a key file, for so long at most, where a hosts file says, if
@@ -123,6 +143,6 @@ pub(crate) fn read_deployment(word: &str, options: &[String]) -> Option<Deployme
     match word {
         "keys" => read_keys(options),
         "cluster" => read_cluster(options),
-        _ => read_run(word, options),
+        _ => read_wished(word, options),
     }
 }

@@ -17,11 +17,13 @@ mod simulated;
 mod simulation;
 mod telling;
 mod verifying;
+mod wallets;
+mod wishes;
 mod words;
 
 pub use cs_gen::MOST_SIZE;
 pub use deployments::Deployment;
 pub use program::run;
-pub use report::{Report, report_on};
+pub use report::{ContractMode, Report, report_on};
 pub use simulation::simulate;
 pub use words::{Command, WordsError, read_words, words_or_status};

@@ -1,5 +1,5 @@
 //! The whole of the program, over the words and the outside that are handed in.
-ghost use Rattle.std.specs.Prelude.{◌≡◌, ◌≢◌, ◌≤◌, ◌↔◌, Bool, ℕ, List, Option, Ok, Some, None};
+ghost use Rattle.std.specs.Prelude.{◌≡◌, ◌≢◌, ◌≤◌, ◌↔◌, Bool, true, ℕ, List, take, Option, Ok, Some, None};
 ghost use Rattle.std.specs.Io.KnownBytes.{Keeps};
 ghost use Rattle.std.specs.declared.net.ip_addr.IpAddr.{IpAddr};
 ghost use Rattle.std.specs.Net.Grammar.{IsIpText};
@@ -9,7 +9,7 @@ ghost use Rattle.cs_base.specs.Fields.{IsBytes, IsForm};
 ghost use Rattle.cs_base.specs.declared.limits.TheConstants.{MOST_SCHEDULE};
 ghost use Rattle.cs_sched.specs.Text.{schedule_of};
 ghost use Rattle.cs_sched.specs.declared.schedule.Schedule.{Schedule};
-ghost use Rattle.cs_approve.specs.Approval.{is_approved_by};
+ghost use Rattle.cs_native.specs.Approval.{is_approved_by};
 ghost use Rattle.cs_replay.specs.Sound.{IsSound, IsSoundWorld, AfterEach};
 ghost use Rattle.cs_cli.specs.Words.{command_of, texts_of};
 ghost use Rattle.cs_tx_value.specs.Object.{object_encoding, ObjectFits, object_at};
@@ -21,6 +21,9 @@ ghost use Rattle.cs_wire.specs.OpenedAs.{IsOpenedAs};
 ghost use Rattle.cs_lang.specs.declared.tree.ContractTree.{ContractTree};
 ghost use Rattle.cs_lang.specs.Texts.{IsContract};
 ghost use Rattle.cs_types.specs.Accepting.{contract_of};
+ghost use Rattle.cs_lang_token.specs.declared.kind.Kind.{Kind as TokenKind};
+ghost use Rattle.cs_explain.specs.Fronts.{IsFront, goes_on};
+ghost use Rattle.cs_explain.specs.Wanted.{IsOneOf, with_token, wanted_at};
 ghost use Rattle.cs_verify.specs.declared.claim.Claim.{Claim};
 ghost use Rattle.cs_verify.specs.Verdicts.{verdict_on, ShowsExactly, VerdictTells as ProofTells};
 ghost use Rattle.cs_gen.specs.declared.limits.TheConstants.{MOST_SIZE};
@@ -46,6 +49,10 @@ ghost use Rattle.cs_node.specs.Speaking.{Speaks};
 ghost use Rattle.cs_world_law.specs.Worlds.{net_of_keys};
 ghost use Rattle.cs_serve.specs.Serving.{trail};
 ghost use Rattle.cs_run_law.specs.Running.{Given, inputs_at, world_given, site_of_keys, IsTraffic};
+ghost use Rattle.cs_onetime.specs.Halves.{public_key};
+ghost use Rattle.cs_onetime.specs.Signature.{Verifies, signature};
+ghost use Rattle.cs_onetime.specs.Wallet.{Call as WalletUse, CallsGo, IsSigned};
+ghost use Rattle.cs_onetime.specs.declared.wallet.Wallet.{Wallet};
 ghost use Rattle.cs_io.specs.Outside.{Object, told_of, faults_of, outside};
 ghost use Rattle.cs_cli.specs.Answers.{words_answer};
 ghost use Rattle.cs_cli.specs.Done.{DeploymentDoes, CommandDoes};
@@ -65,11 +72,18 @@ use crate::words::{Command, read_words};
 use cs_audit_law::dumps_are_answered_yes;
 use cs_base::{Sink, Source, print};
 use cs_config::key_files_tell_keys_alone;
-use cs_deploy::{run_client, run_cluster, run_keys, run_keys_read, run_node, run_show};
+use cs_deploy::{
+    run_client, run_client_session, run_client_tries, run_cluster, run_keys, run_keys_read,
+    run_node, run_show,
+};
+use cs_explain::wanted_tokens_can_stand;
 use cs_help::{tell_help, tell_version};
 use cs_io::{Link, Spawner, Store, closing};
+use cs_onetime::{no_number_signs_two_messages, signatures_verify};
 use cs_replay::{replay_source, schedules_are_sound};
 use cs_run_law::{keys_of_files_speak, nodes_serve_their_trails, running_nodes_are_sound};
+use cs_trial::run_try;
+use cs_wallet::run_wallet;
 use std::alloc::Global;
 
 /// Does what the words call for, and answers the status that the process ends with: 0 where it is
@@ -163,6 +177,14 @@ pub fn run<S: Source, K: Sink, E: Store, L: Link, P: Spawner>(
         → schedule_of MOST_SCHEDULE text ≡ Ok schedule
         → IsSound (is_approved_by schedule.contracts) schedule }
 
+    // What a wallet signs verifies under the public key of its number. Over every list of calls of a
+    // wallet no number signs two messages.
+    ensures signatures { (seed : List ℕ) (number : ℕ) (message : List ℕ)
+        → Verifies (public_key seed number) message (signature seed number message) }
+    ensures one_message { (old new : Wallet) (calls : List WalletUse) (number : ℕ)
+        (one other : List ℕ) → CallsGo old calls new → IsSigned number one calls
+        → IsSigned number other calls → one ≡ other }
+
     // These limits, which clauses have by name, are these numbers.
     ensures deployment_limits { DeploymentLimitsAre }
     ensures text_limits { TextLimitsAre }
@@ -182,11 +204,19 @@ pub fn run<S: Source, K: Sink, E: Store, L: Link, P: Spawner>(
     ensures addresses { (text : List ℕ) (address : IpAddr)
         → (address_of text ≡ Some address) ↔ IsIpText text address }
 
+    // A kind of tokens is told as wanted at a place of a refused contract exactly where the text
+    // before it, with such a token behind it, is the front of a contract text. Fronts are those of
+    // the grammar.
+    ensures fronts { (text : List ℕ) → (goes_on text ≡ true) ↔ IsFront text }
+    ensures wanted { (text : List ℕ) (place : ℕ) (kind : TokenKind)
+        → IsOneOf kind (wanted_at text place) ↔ IsFront (with_token (take place text) kind) }
+
     // A fault is answered only where one of that object came about in this call.
     ensures read_fault { HasCause (S.faults input.old) (S.faults input.new) (result ≡ 5) }
     ensures write_fault { HasCause (K.faults output.old) (K.faults output.new) (result ≡ 6) }
 {
     what_is_read_was_written();
+    wanted_tokens_can_stand();
     schedules_are_sound();
     dumps_are_answered_yes();
     shown_claims_are_covered();
@@ -195,6 +225,8 @@ pub fn run<S: Source, K: Sink, E: Store, L: Link, P: Spawner>(
     key_files_tell_keys_alone();
     nodes_serve_their_trails();
     running_nodes_are_sound();
+    signatures_verify();
+    no_number_signs_two_messages();
     match read_words(words) {
         Some(command) => answer(alloc, words, command, input, output, store, link, spawn),
         None => closing(print(output, b"words\n"), 2),
@@ -228,12 +260,14 @@ fn answer<S: Source, K: Sink, E: Store, L: Link, P: Spawner>(
 {
     match command {
         Command::Replay(mode) => replay_source(alloc, mode, input, output),
-        Command::Contract { printing } => tell_source(alloc, printing, input, output),
+        Command::Contract(mode) => tell_source(alloc, mode, input, output),
+        Command::Try { file } => run_try(alloc, word_at(words, file), input, store, output),
         Command::Verify => examine_source(alloc, Subject::Claim, input, output),
         Command::Audit => examine_source(alloc, Subject::Dump, input, output),
         Command::Simulate { number, size } => simulate(alloc, number, size, output),
         Command::Help(topic) => tell_help(topic, output),
         Command::Version => tell_version(output),
+        Command::Wallet(call) => run_wallet(alloc, call, word_at(words, 2), store, output),
         Command::ReadKeys { site } => {
             run_keys_read(alloc, word_at(words, site), input, store, output)
         }
@@ -289,6 +323,39 @@ fn deploy<K: Sink, E: Store, L: Link, P: Spawner>(
             let call = word_at(words, call);
             let hosts = word_if(words, hosts);
             run_client(alloc, site, keys, call, hosts, until, store, link, output)
+        }
+        Deployment::ClientTries {
+            site,
+            keys,
+            call,
+            hosts,
+            tries,
+            until,
+        } => {
+            let site = word_at(words, site);
+            let keys = word_at(words, keys);
+            let call = word_at(words, call);
+            let hosts = word_if(words, hosts);
+            run_client_tries(
+                alloc, site, keys, call, hosts, tries, until, store, link, output,
+            )
+        }
+        Deployment::ClientSession {
+            site,
+            keys,
+            call,
+            hosts,
+            session,
+            until,
+        } => {
+            let site = word_at(words, site);
+            let keys = word_at(words, keys);
+            let call = word_at(words, call);
+            let hosts = word_if(words, hosts);
+            let session = word_at(words, session);
+            run_client_session(
+                alloc, site, keys, call, hosts, session, until, store, link, output,
+            )
         }
         Deployment::Show {
             site,

@@ -3,7 +3,7 @@ ghost use Rattle.std.specs.Prelude.{◌≡◌, ◌≤◌, string_bytes, IfOk, No
 ghost use Rattle.cs_gen.specs.declared.limits.TheConstants.{MOST_SIZE};
 ghost use Rattle.cs_replay.specs.Answers.{refusal_answer};
 ghost use Rattle.cs_sched.specs.Playable.{IsPlayable};
-ghost use Rattle.cs_approve.specs.Approval.{is_approved};
+ghost use Rattle.cs_native.specs.Approval.{is_approved_with_rules};
 ghost use Rattle.cs_cli.specs.Simulated.{asked_line, decided_lines, spent_lines, simulation_text, done_answer, answer_by, played_answer, simulate_answer};
 ghost use Rattle.cs_cli.specs.Unforged.{InjectsNothing};
 ghost use Rattle.cs_cli.specs.SimulatedReports.{ReportTells};
@@ -12,6 +12,7 @@ use crate::keys::repeated_key;
 use cs_approve::{Book, BookError};
 use cs_base::{Memory, NullSink};
 use cs_gen::{generated_schedules_are_playable, schedule_of};
+use cs_native::RuledBook;
 use cs_replay::{Mode, ReplayError, Summary, replay};
 use cs_sched::Schedule;
 use cs_text::{Cause, Refusal, refusal_line};
@@ -50,7 +51,10 @@ fn report_on_played(
         (ReportTells (answer_by number size schedule.now None)) }
 {
     match Book::new(alloc, schedule.contracts.as_slice()) {
-        Ok(book) => report_by(alloc, number, size, schedule, &book),
+        Ok(book) => {
+            let ruled = RuledBook::new(book);
+            report_by(alloc, number, size, schedule, &ruled)
+        }
         Err(BookError::Memory) => Err(Memory),
         // The contracts of a schedule are accepted.
         Err(BookError::Refused(..)) => unreachable!(),
@@ -63,12 +67,12 @@ fn report_by(
     number: u64,
     size: u32,
     schedule: &Schedule,
-    book: &Book,
+    book: &RuledBook,
 ) -> Result<Report, Memory>
     requires playable { IsPlayable schedule.now }
     requires unforged { InjectsNothing schedule.now }
     ensures { IfOk result
-        (ReportTells (played_answer (is_approved book.now) number size schedule.now)) }
+        (ReportTells (played_answer (is_approved_with_rules book.now) number size schedule.now)) }
 {
     let plain = Mode {
         traced: false,

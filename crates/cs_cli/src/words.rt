@@ -2,13 +2,16 @@
 ghost use Rattle.std.specs.Prelude.{◌≡◌, ◌↔◌, [], IfOk, IsOkAnd};
 ghost use Rattle.std.specs.IoError.{error_kind};
 ghost use Rattle.std.specs.declared.io.ErrorKind.TheVariants.{InvalidData};
-ghost use Rattle.cs_cli.specs.Words.{command_of_word, command_of, flagged, plain_command, plain_mode, topic_called, mode_from, with_option, texts_of};
+ghost use Rattle.cs_cli.specs.Words.{command_of_word, command_of, plain_command, plain_contract, plain_mode, topic_called, file_called, contract_mode_from, mode_from, with_contract_option, with_option, texts_of};
 ghost use Rattle.cs_cli.specs.declared.words.WordsError.TheVariants.{NotText, Memory};
 
-use crate::deployments::{Deployment, read_deployment, reads_master};
+use crate::deployments::{Deployment, is_file, read_deployment, reads_master};
 use crate::numbers::read_simulation;
+use crate::report::ContractMode;
+use crate::wallets::read_wallet;
 use cs_help::{Topic, topic_of};
 use cs_replay::Mode;
+use cs_wallet::WalletCall;
 use std::alloc::{AllocFailed, Global};
 use std::io;
 use std::io::ErrorKind;
@@ -19,9 +22,12 @@ pub enum Command {
     /// Reads a schedule from the input, plays it, and prints its lines; those of a trace and a dump
     /// too where the mode asks for them.
     Replay(Mode),
-    /// Reads a contract from the input, and tells what it is, or what its first fault is; where it
-    /// is accepted and to be printed, its text as the printer gives it instead.
-    Contract { printing: bool },
+    /// Reads a contract from the input, and tells what it is, or what its first fault is, as the
+    /// mode asks for.
+    Contract(ContractMode),
+    /// Reads cases from the input, and tells what the contract of the file at this place among the
+    /// words makes of each, and what its checks say.
+    Try { file: usize },
     /// Reads a head and a proof from the input, and says what the proof shows to who trusts the head.
     Verify,
     /// Reads a dump from the input, and says whether it is sound, or the first rule that it breaks.
@@ -35,6 +41,8 @@ pub enum Command {
     /// Reads a master key from the input, and saves the key files that it gives the nodes and clients
     /// of the site file at this place among the words.
     ReadKeys { site: usize },
+    /// Does what is called for with the wallet of the file at place 2 among the words.
+    Wallet(WalletCall),
     /// Runs a node or a client, or saves key files, as the files among the words say.
     Deploy(Deployment),
 }
@@ -106,8 +114,12 @@ fn read_command(word: &str, options: &[String]) -> Option<Command>
             Some(Command::Replay(mode))
         }
         "contract" => {
-            let printing = read_flag(options, "--print")?;
-            Some(Command::Contract { printing })
+            let mode = read_contract_mode(options)?;
+            Some(Command::Contract(mode))
+        }
+        "try" => {
+            let file = read_file(options)?;
+            Some(Command::Try { file })
         }
         "verify" => read_plain(Command::Verify, options),
         "audit" => read_plain(Command::Audit, options),
@@ -120,6 +132,10 @@ fn read_command(word: &str, options: &[String]) -> Option<Command>
             Some(Command::Help(topic))
         }
         "version" => read_plain(Command::Version, options),
+        "wallet" => {
+            let call = read_wallet(options)?;
+            Some(Command::Wallet(call))
+        }
         "keys" if reads_master(options) => Some(Command::ReadKeys { site: 1 }),
         _ => {
             let deployment = read_deployment(word, options)?;
@@ -159,12 +175,55 @@ fn with_option(mode: Mode, option: &str) -> Option<Mode>
     }
 }
 
+// How a contract is told of, by the options, each of which stands once at most.
+fn read_contract_mode(options: &[String]) -> Option<ContractMode>
+    ensures { result ≡ contract_mode_from plain_contract (texts_of options.now) }
+{
+    let mut mode = ContractMode {
+        printing: false,
+        explaining: false,
+    };
+    for option in options {
+        mode = with_contract_option(mode, option.as_str())?;
+    }
+    Some(mode)
+}
+
+// One option more.
+fn with_contract_option(mode: ContractMode, option: &str) -> Option<ContractMode>
+    ensures { result ≡ with_contract_option mode option.now }
+{
+    match option {
+        "--print" if !mode.printing => Some(ContractMode {
+            printing: true,
+            ..mode
+        }),
+        "--explain" if !mode.explaining => Some(ContractMode {
+            explaining: true,
+            ..mode
+        }),
+        _ => None,
+    }
+}
+
 // A command that has no option.
 fn read_plain(command: Command, options: &[String]) -> Option<Command>
     ensures { result ≡ plain_command command (texts_of options.now) }
 {
     if options.is_empty() {
         Some(command)
+    } else {
+        None
+    }
+}
+
+// The place of the one file behind a command.
+fn read_file(options: &[String]) -> Option<usize>
+    ensures { result ≡ file_called (texts_of options.now) }
+{
+    let (file, others) = options.split_first()?;
+    if others.is_empty() && is_file(file.as_str()) {
+        Some(1)
     } else {
         None
     }
@@ -179,22 +238,6 @@ fn read_topic(options: &[String]) -> Option<Topic>
         Some((word, others)) => {
             if others.is_empty() {
                 topic_of(word.as_str())
-            } else {
-                None
-            }
-        }
-    }
-}
-
-// Whether the words behind a command are its one option; none where they are others.
-fn read_flag(options: &[String], flag: &str) -> Option<bool>
-    ensures { result ≡ flagged flag.now (texts_of options.now) }
-{
-    match options.split_first() {
-        None => Some(false),
-        Some((option, others)) => {
-            if option.as_str() == flag && others.is_empty() {
-                Some(true)
             } else {
                 None
             }

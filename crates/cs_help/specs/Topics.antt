@@ -4,7 +4,7 @@ use Rattle.std.specs.Io.KnownBytes.{Appends}
 use Rattle.std.specs.Str.{bytes_eq}
 use Rattle.cs_base.specs.Answers.{Answer}
 use Rattle.cs_help.specs.declared.topic.Topic.{Topic}
-use Rattle.cs_help.specs.declared.topic.Topic.TheVariants.{Commands, Replay, Contract, Verify, Audit, Simulate, Node, Client, Show, Keys, Cluster, Help, Version}
+use Rattle.cs_help.specs.declared.topic.Topic.TheVariants.{Commands, Replay, Contract, Try, Verify, Audit, Simulate, Node, Client, Show, Keys, Cluster, Wallet, Help, Version}
 use Rattle.cs_help.specs.declared.commands.TheConstants as text
 use Rattle.cs_help.specs.declared.version.TheConstants as program
 
@@ -13,6 +13,7 @@ abbrev pub topic_of : List ℕ → Option Topic
 topic_of word =
     if bytes_eq word (codes "replay") then Some Replay
     else if bytes_eq word (codes "contract") then Some Contract
+    else if bytes_eq word (codes "try") then Some Try
     else if bytes_eq word (codes "verify") then Some Verify
     else if bytes_eq word (codes "audit") then Some Audit
     else if bytes_eq word (codes "simulate") then Some Simulate
@@ -21,6 +22,7 @@ topic_of word =
     else if bytes_eq word (codes "show") then Some Show
     else if bytes_eq word (codes "keys") then Some Keys
     else if bytes_eq word (codes "cluster") then Some Cluster
+    else if bytes_eq word (codes "wallet") then Some Wallet
     else if bytes_eq word (codes "help") then Some Help
     else if bytes_eq word (codes "version") then Some Version
     else None
@@ -29,6 +31,7 @@ abbrev pub help_text : Topic → List ℕ
 help_text Commands = text.COMMANDS.now
 help_text Replay = text.REPLAY.now
 help_text Contract = text.CONTRACT.now
+help_text Try = text.TRY.now
 help_text Verify = text.VERIFY.now
 help_text Audit = text.AUDIT.now
 help_text Simulate = text.SIMULATE.now
@@ -37,6 +40,7 @@ help_text Client = text.CLIENT.now
 help_text Show = text.SHOW.now
 help_text Keys = text.KEYS.now
 help_text Cluster = text.CLUSTER.now
+help_text Wallet = text.WALLET.now
 help_text Help = text.HELP.now
 help_text Version = text.VERSION.now
 

@@ -2,7 +2,8 @@
 
 pub const COMMANDS: &str = "usage: chainspace COMMAND ..
   replay [--trace] [--dumps] < SCHEDULE   plays a schedule
-  contract [--print] < CONTRACT           judges a contract
+  contract [--print] [--explain] < TEXT   judges a contract
+  try FILE < CASES                        tries a contract on cases
   verify < CLAIM                          judges a proof of a log entry
   audit < DUMP                            judges the logs of a ledger
   simulate N SIZE                         plays a random schedule, and counts
@@ -11,6 +12,7 @@ pub const COMMANDS: &str = "usage: chainspace COMMAND ..
   show SITE KEYS KEY --ticks N            tells the state of an object or dummy
   keys SITE MASTER                        saves all key files of a site
   cluster PLAN                            runs a whole ledger, for trials
+  wallet new | key | sign FILE ..         keeps one-time keys, and signs
   help [COMMAND]                          tells of all commands, or of one
   version                                 tells the version and the logic
 ";
@@ -23,11 +25,22 @@ status: 0 done, 3 a line is refused, 4 a line injects a forgery, 13 a limit
 example: chainspace replay --trace < examples/pay.schedule
 ";
 
-pub const CONTRACT: &str = "usage: chainspace contract [--print] < CONTRACT
+pub const CONTRACT: &str = "usage: chainspace contract [--print] [--explain] < TEXT
 Prints the id of a contract, and what its methods cost; or its first fault.
-  --print   prints its text instead, as the printer lays it out
+  --print     prints its text instead, as the printer lays it out
+  --explain   tells behind a fault what stands there and what could, and behind
+              the costs what may not be meant
 status: 0 accepted, 3 refused, 13 too many bytes
 example: chainspace contract < examples/contracts/pay.contract
+";
+
+pub const TRY: &str = "usage: chainspace try FILE < CASES
+Tries the contract of a file on cases, a line each: a method, the objects that
+it consumes, behind + those that it reads, and its arguments. Prints what its
+checks say of what the procedure makes, or of what stands behind ->.
+status: 0 no case failed, 9 one failed, 3 refused, 12 no such file, 13 a limit
+example: chainspace try examples/contracts/pay.contract
+         < examples/contracts/pay.cases
 ";
 
 pub const VERIFY: &str = "usage: chainspace verify < CLAIM
@@ -60,11 +73,16 @@ example: chainspace node site.toml keys-0.0.toml --ticks 180000
 ";
 
 pub const CLIENT: &str = "usage: chainspace client SITE KEYS CALL --ticks N [--hosts FILE]
+                         [--tries N | --session HEX]
 Makes the call of a call file, and prints what has become of its session.
   --ticks N      for N ticks at most, of 20 milliseconds if FILE doesn't say
                  otherwise
   --turns N      for N inputs at most, datagrams or ticks
   --hosts FILE   where all are; without it they are on this machine
+  --tries N      makes the call again where it is aborted, under the next
+                 number, N tries at most (1 to 64); behind all other words
+  --session HEX  submits that session of the call, which was made before, by its
+                 encoding; behind all other words
 status: 0 accepted or aborted, 10 open, 3 the call is refused,
         7 the socket fails, 12 a file isn't taken
 example: chainspace client site.toml keys-c.0.toml pay.toml --ticks 1500
@@ -95,6 +113,19 @@ Saves the key files of a plan's site, starts all nodes, runs the calls one after
 the other, and prints how each of them ended. For trials on one machine.
 status: 0 done, 11 a child isn't started, 12 a file isn't taken or saved
 example: chainspace cluster plan.toml
+";
+
+pub const WALLET: &str = "usage: chainspace wallet new FILE SEED
+       chainspace wallet key FILE N
+       chainspace wallet sign FILE N MESSAGE
+Saves a wallet of one-time keys, whatever FILE held; prints the public key of
+a number; or signs a message under a number, and prints the 16 texts. Then the
+number signs no other message. Two copies of FILE can: back it up before you
+sign, and never sign with a copy that doesn't know all that was signed.
+  SEED, MESSAGE   64 hex digits
+status: 0 done, 3 the number has signed another message,
+        12 the file isn't taken or saved, 13 too many numbers have signed
+example: chainspace wallet key wallet.toml 0
 ";
 
 pub const HELP: &str = "usage: chainspace help [COMMAND]

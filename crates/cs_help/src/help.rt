@@ -13,6 +13,7 @@ pub fn help_text(topic: Topic) -> &'static str
         Topic::Commands => commands::COMMANDS,
         Topic::Replay => commands::REPLAY,
         Topic::Contract => commands::CONTRACT,
+        Topic::Try => commands::TRY,
         Topic::Verify => commands::VERIFY,
         Topic::Audit => commands::AUDIT,
         Topic::Simulate => commands::SIMULATE,
@@ -21,6 +22,7 @@ pub fn help_text(topic: Topic) -> &'static str
         Topic::Show => commands::SHOW,
         Topic::Keys => commands::KEYS,
         Topic::Cluster => commands::CLUSTER,
+        Topic::Wallet => commands::WALLET,
         Topic::Help => commands::HELP,
         Topic::Version => commands::VERSION,
     }

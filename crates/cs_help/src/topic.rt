@@ -9,6 +9,7 @@ pub enum Topic {
     Commands,
     Replay,
     Contract,
+    Try,
     Verify,
     Audit,
     Simulate,
@@ -17,6 +18,7 @@ pub enum Topic {
     Show,
     Keys,
     Cluster,
+    Wallet,
     Help,
     Version,
 }
@@ -28,6 +30,7 @@ pub fn topic_of(word: &str) -> Option<Topic>
     match word {
         "replay" => Some(Topic::Replay),
         "contract" => Some(Topic::Contract),
+        "try" => Some(Topic::Try),
         "verify" => Some(Topic::Verify),
         "audit" => Some(Topic::Audit),
         "simulate" => Some(Topic::Simulate),
@@ -36,6 +39,7 @@ pub fn topic_of(word: &str) -> Option<Topic>
         "show" => Some(Topic::Show),
         "keys" => Some(Topic::Keys),
         "cluster" => Some(Topic::Cluster),
+        "wallet" => Some(Topic::Wallet),
         "help" => Some(Topic::Help),
         "version" => Some(Topic::Version),
         _ => None,

@@ -1,6 +1,6 @@
 use Rattle.std.proofs.Common.{◌≡◌, ℕ, List, Some, ap, subst, ◌∙◌}
 use Rattle.cs_base.specs.Answers.{Answers}
-use Rattle.cs_approve.specs.Approval.{is_approved}
+use Rattle.cs_native.specs.Approval.{is_approved_with_rules}
 use Rattle.cs_approve.specs.Books.{Contracts, contracts_of, first_refused}
 use Rattle.cs_approve.specs.Refusing.{IsFirstRefused}
 use Rattle.cs_approve.specs.declared.book.BookError.{BookError}
@@ -18,5 +18,5 @@ unreachable-requires g c =
 pub returns-in-Ok-clause-answers : goal.returns-in-Ok-clause-answers
 returns-in-Ok-clause-answers g c =
     subst
-    (λ (contracts : Contracts). Answers (verdict_answer (verdict_of (is_approved contracts) c.args.dump.now)) (g.K.Sink.written c.args.output.now) (g.K.Sink.written c.audit_by.new.output) c.audit_by.result)
-    (c.in-Ok.ensures.made ∙ ap contracts_of c.as_slice.ensures) c.audit_by.ensures.answers
+    (λ (contracts : Contracts). Answers (verdict_answer (verdict_of (is_approved_with_rules contracts) c.args.dump.now)) (g.K.Sink.written c.args.output.now) (g.K.Sink.written c.audit_by.new.output) c.audit_by.result)
+    (c.new-ruled.ensures ∙ c.in-Ok.ensures.made ∙ ap contracts_of c.as_slice.ensures) c.audit_by.ensures.answers

@@ -1,8 +1,8 @@
 use Rattle.std.proofs.Common.{ℕ, List, Option, refl}
 use Rattle.cs_io.specs.Outside.{Object}
-use Rattle.cs_cli.specs.declared.words.Command.TheVariants.{Replay, Contract, Verify, Audit, Simulate, Help, Version, ReadKeys, Deploy}
+use Rattle.cs_cli.specs.declared.words.Command.TheVariants.{Replay, Contract, Try, Verify, Audit, Simulate, Help, Version, Wallet, ReadKeys, Deploy}
 use Rattle.cs_cli.proofs.Sources.{kept}
-use Rattle.cs_cli.proofs.Doing.{does-so, read-keys-does}
+use Rattle.cs_cli.proofs.Doing.{does-so, wallet-does, read-keys-does, try-does}
 use Rattle.cs_cli.proofs.Leaving.{leaves-so}
 use Rattle.cs_cli.proofs.program.answer.Goals as goal
 
@@ -12,7 +12,7 @@ returns-in-Replay-clause-does g c =
 
 pub returns-in-Contract-clause-does : goal.returns-in-Contract-clause-does
 returns-in-Contract-clause-does g c =
-    does-so _ _ _ _ (Contract c.in-Contract.printing) c.args.command c.in-Contract.is (record { tells = c.tell_source.ensures.tells; whole = c.tell_source.ensures.whole })
+    does-so _ _ _ _ (Contract c.in-Contract.mode) c.args.command c.in-Contract.is (record { tells = c.tell_source.ensures.tells; whole = c.tell_source.ensures.whole })
 
 pub returns-in-Verify-clause-does : goal.returns-in-Verify-clause-does
 returns-in-Verify-clause-does g c = does-so _ _ _ _ Verify c.args.command c.in-Verify.is (record { gives = c.examine_source.ensures.gives; whole = c.examine_source.ensures.whole })
@@ -38,9 +38,17 @@ returns-in-Version-clause-does g c =
     does-so _ _ _ _ Version c.args.command c.in-Version.is
     (record { answers = c.tell_version.ensures.answers; whole = c.tell_version.ensures.whole; unread = kept (g.S.Source.left c.args.input.now) })
 
+pub returns-in-Try-clause-does : goal.returns-in-Try-clause-does
+returns-in-Try-clause-does g c =
+    try-does _ _ _ _ c.in-Try.file _ c.args.command c.in-Try.is c.word_at.ensures (record { runs = c.run_try.ensures.runs; kept = c.run_try.ensures.kept; whole = c.run_try.ensures.whole })
+
+pub returns-in-Wallet-clause-does : goal.returns-in-Wallet-clause-does
+returns-in-Wallet-clause-does g c =
+    wallet-does _ _ _ _ c.in-Wallet.call _ c.args.command c.in-Wallet.is c.word_at-in-Wallet.ensures (record { runs = c.run_wallet.ensures.runs; whole = c.run_wallet.ensures.whole })
+
 pub returns-in-ReadKeys-clause-does : goal.returns-in-ReadKeys-clause-does
 returns-in-ReadKeys-clause-does g c =
-    read-keys-does _ _ _ _ c.in-ReadKeys.site _ c.args.command c.in-ReadKeys.is c.word_at.ensures (record { runs = c.run_keys_read.ensures.runs; whole = c.run_keys_read.ensures.whole })
+    read-keys-does _ _ _ _ c.in-ReadKeys.site _ c.args.command c.in-ReadKeys.is c.word_at-in-ReadKeys.ensures (record { runs = c.run_keys_read.ensures.runs; whole = c.run_keys_read.ensures.whole })
 
 pub returns-in-Deploy-clause-does : goal.returns-in-Deploy-clause-does
 returns-in-Deploy-clause-does g c =
@@ -51,7 +59,7 @@ pub returns-in-Replay-clause-alone : goal.returns-in-Replay-clause-alone
 returns-in-Replay-clause-alone g c = leaves-so _ _ (Replay c.in-Replay.mode) c.args.command c.in-Replay.is (refl, (refl, refl))
 
 pub returns-in-Contract-clause-alone : goal.returns-in-Contract-clause-alone
-returns-in-Contract-clause-alone g c = leaves-so _ _ (Contract c.in-Contract.printing) c.args.command c.in-Contract.is (refl, (refl, refl))
+returns-in-Contract-clause-alone g c = leaves-so _ _ (Contract c.in-Contract.mode) c.args.command c.in-Contract.is (refl, (refl, refl))
 
 pub returns-in-Verify-clause-alone : goal.returns-in-Verify-clause-alone
 returns-in-Verify-clause-alone g c = leaves-so _ _ Verify c.args.command c.in-Verify.is (refl, (refl, refl))
@@ -67,6 +75,12 @@ returns-in-Help-clause-alone g c = leaves-so _ _ (Help c.in-Help.topic) c.args.c
 
 pub returns-in-Version-clause-alone : goal.returns-in-Version-clause-alone
 returns-in-Version-clause-alone g c = leaves-so _ _ Version c.args.command c.in-Version.is (refl, (refl, (refl, refl)))
+
+pub returns-in-Try-clause-alone : goal.returns-in-Try-clause-alone
+returns-in-Try-clause-alone g c = leaves-so _ _ (Try c.in-Try.file) c.args.command c.in-Try.is (refl, refl)
+
+pub returns-in-Wallet-clause-alone : goal.returns-in-Wallet-clause-alone
+returns-in-Wallet-clause-alone g c = leaves-so _ _ (Wallet c.in-Wallet.call) c.args.command c.in-Wallet.is (refl, (refl, refl))
 
 pub returns-in-ReadKeys-clause-alone : goal.returns-in-ReadKeys-clause-alone
 returns-in-ReadKeys-clause-alone g c = leaves-so _ _ (ReadKeys c.in-ReadKeys.site) c.args.command c.in-ReadKeys.is (refl, refl)

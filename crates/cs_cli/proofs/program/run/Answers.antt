@@ -1,6 +1,6 @@
 use Rattle.std.proofs.Common.{Ok, refl, sym, ◌∙◌, ap, Some, None, arith}
 use Rattle.cs_base.specs.declared.limits.TheConstants.{MOST_SCHEDULE}
-use Rattle.cs_approve.specs.Approval.{is_approved_by}
+use Rattle.cs_native.specs.Approval.{is_approved_by}
 use Rattle.cs_sched.proofs.Played.{given_playable}
 use Rattle.cs_audit_dump.specs.declared.limits.TheConstants.{MOST_DUMP}
 use Rattle.cs_cli.proofs.Dumps.{answers_yes}
@@ -80,6 +80,18 @@ returns-in-Some-clause-contracts g c = c.what_is_read_was_written.ensures.contra
 pub returns-in-None-clause-contracts : goal.returns-in-None-clause-contracts
 returns-in-None-clause-contracts g c = c.what_is_read_was_written.ensures.contracts
 
+pub returns-in-Some-clause-wanted : goal.returns-in-Some-clause-wanted
+returns-in-Some-clause-wanted g c = c.wanted_tokens_can_stand.ensures.wanted
+
+pub returns-in-Some-clause-fronts : goal.returns-in-Some-clause-fronts
+returns-in-Some-clause-fronts g c = c.wanted_tokens_can_stand.ensures.fronts
+
+pub returns-in-None-clause-wanted : goal.returns-in-None-clause-wanted
+returns-in-None-clause-wanted g c = c.wanted_tokens_can_stand.ensures.wanted
+
+pub returns-in-None-clause-fronts : goal.returns-in-None-clause-fronts
+returns-in-None-clause-fronts g c = c.wanted_tokens_can_stand.ensures.fronts
+
 pub returns-in-Some-clause-addresses : goal.returns-in-Some-clause-addresses
 returns-in-Some-clause-addresses g c = c.what_is_read_was_written.ensures.addresses
 
@@ -121,3 +133,15 @@ returns-in-None-clause-ledger_limits g c = ledger-limits
 
 pub returns-in-None-clause-order_limits : goal.returns-in-None-clause-order_limits
 returns-in-None-clause-order_limits g c = order-limits
+
+pub returns-in-Some-clause-signatures : goal.returns-in-Some-clause-signatures
+returns-in-Some-clause-signatures g c = c.signatures_verify.ensures
+
+pub returns-in-None-clause-signatures : goal.returns-in-None-clause-signatures
+returns-in-None-clause-signatures g c = c.signatures_verify.ensures
+
+pub returns-in-Some-clause-one_message : goal.returns-in-Some-clause-one_message
+returns-in-Some-clause-one_message g c = c.no_number_signs_two_messages.ensures
+
+pub returns-in-None-clause-one_message : goal.returns-in-None-clause-one_message
+returns-in-None-clause-one_message g c = c.no_number_signs_two_messages.ensures

@@ -1,6 +1,6 @@
 use Rattle.std.proofs.Common.{◌≡◌, ℕ, List, Some, ap, subst, ◌∙◌}
 use Rattle.std.specs.Prelude.{IfOk}
-use Rattle.cs_approve.specs.Approval.{is_approved}
+use Rattle.cs_native.specs.Approval.{is_approved_with_rules}
 use Rattle.cs_approve.specs.Books.{Contracts, contracts_of, first_refused}
 use Rattle.cs_approve.specs.Refusing.{IsFirstRefused}
 use Rattle.cs_approve.specs.declared.book.BookError.{BookError}
@@ -17,5 +17,5 @@ unreachable-requires c =
 
 pub returns-in-Ok : goal.returns-in-Ok
 returns-in-Ok c =
-    subst (λ (contracts : Contracts). IfOk c.report_by.result (ReportTells (played_answer (is_approved contracts) c.args.number c.args.size c.args.schedule.now)))
-    (c.in-Ok.ensures.made ∙ ap contracts_of c.as_slice.ensures) c.report_by.ensures
+    subst (λ (contracts : Contracts). IfOk c.report_by.result (ReportTells (played_answer (is_approved_with_rules contracts) c.args.number c.args.size c.args.schedule.now)))
+    (c.new-ruled.ensures ∙ c.in-Ok.ensures.made ∙ ap contracts_of c.as_slice.ensures) c.report_by.ensures

@@ -8,9 +8,9 @@ use Rattle.cs_cli.proofs.telling.tell_source.Goals as goal
 
 pub returns-in-Ok-clause-tells : goal.returns-in-Ok-clause-tells
 returns-in-Ok-clause-tells g c =
-    tells-text c.args.printing _ _ _ _ _ c.in-Ok.text.items c.tell.result c.in-Ok.ensures.text
-    (subst (λ (text : List ℕ). TellsOf c.args.printing text (g.K.Sink.written c.args.output.now) (g.K.Sink.written c.tell.new.output) c.tell.result) c.deref.ensures.value c.tell.ensures.tells)
-    (λ other. subst (λ (text : List ℕ). TellsContractAccepted c.args.printing text (g.K.Sink.written c.args.output.now) (g.K.Sink.written c.tell.new.output) c.tell.result) c.deref.ensures.value (c.tell.ensures.accepted other))
+    tells-text c.args.mode _ _ _ _ _ c.in-Ok.text.items c.tell.result c.in-Ok.ensures.text
+    (subst (λ (text : List ℕ). TellsOf c.args.mode text (g.K.Sink.written c.args.output.now) (g.K.Sink.written c.tell.new.output) c.tell.result) c.deref.ensures.value c.tell.ensures.tells)
+    (λ other. subst (λ (text : List ℕ). TellsContractAccepted c.args.mode text (g.K.Sink.written c.args.output.now) (g.K.Sink.written c.tell.new.output) c.tell.result) c.deref.ensures.value (c.tell.ensures.accepted other))
 
 pub returns-in-Err-Failed-clause-tells : goal.returns-in-Err-Failed-clause-tells
 returns-in-Err-Failed-clause-tells g c =
@@ -21,11 +21,11 @@ returns-in-Err-Failed-clause-tells g c =
     )
 
 pub returns-in-Err-Memory-clause-tells : goal.returns-in-Err-Memory-clause-tells
-returns-in-Err-Memory-clause-tells g c = untold c.args.printing _ _ _ _
+returns-in-Err-Memory-clause-tells g c = untold c.args.mode _ _ _ _
 
 pub returns-in-Ok-clause-whole : goal.returns-in-Ok-clause-whole
 returns-in-Ok-clause-whole g c = λ reads writes.
-    tells-whole c.args.printing _ _ _ _ _ c.tell.result (returns-in-Ok-clause-tells g c) reads (λ six. writes (c.tell.ensures.write_fault.cause six))
+    tells-whole c.args.mode _ _ _ _ _ c.tell.result (returns-in-Ok-clause-tells g c) reads (λ six. writes (c.tell.ensures.write_fault.cause six))
 
 pub returns-in-Err-Failed-clause-whole : goal.returns-in-Err-Failed-clause-whole
 returns-in-Err-Failed-clause-whole g c = λ reads writes. absurd (reads (c.in-Err-Failed.ensures.cause.cause (ap Err c.in-Err-Failed.field-0-is)))
