@@ -2,6 +2,7 @@ pub mod formers
 pub mod Options
 pub mod Lists
 pub mod Fields
+pub mod Version
 pub mod Config
 pub mod NodeId
 pub mod Key

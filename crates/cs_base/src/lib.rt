@@ -19,6 +19,7 @@ mod outside;
 mod printing;
 mod reading;
 mod sequence;
+mod version;
 mod whole;
 mod writer;
 
@@ -28,10 +29,10 @@ pub use failures::Failures;
 pub use hex_text::{print_bytes, printed_bytes_are_read, read_bytes};
 pub use key::{Key, keys_are_ordered_by_bytes, shard_of};
 pub use limits::{
-    BOOK_PLACES, LAST_SLOT, LAST_VIEW, LEAST_DATAGRAM, MOST_BODY, MOST_DATAGRAM, MOST_DUMMIES,
-    MOST_ECHOED, MOST_ENTRY, MOST_EVENTS, MOST_GENESIS, MOST_LIARS, MOST_OBJECT, MOST_PLACES,
-    MOST_READERS, MOST_SCHEDULE, MOST_SENT, MOST_SESSION, MOST_SHARDS, MOST_TX, MOST_WAITING,
-    SLOTS_AHEAD, VIEW_BOUND,
+    BOOK_PLACES, LAST_SLOT, LAST_VERSION, LAST_VIEW, LEAST_DATAGRAM, MOST_ACTIONS, MOST_BATCH,
+    MOST_BODY, MOST_DATAGRAM, MOST_DUMMIES, MOST_ECHOED, MOST_ENTRY, MOST_EVENTS, MOST_GENESIS,
+    MOST_LIARS, MOST_OBJECT, MOST_PLACES, MOST_READERS, MOST_SCHEDULE, MOST_SENT, MOST_SESSION,
+    MOST_SHARDS, MOST_TX, MOST_WAITING, SLOTS_AHEAD, VIEW_BOUND,
 };
 pub use line::{fields, place_of, split_at_byte, strip_return};
 pub use mem_sink::{MemSink, NullSink};
@@ -43,5 +44,6 @@ pub use outside::{Got, Put, Sink, Source};
 pub use printing::{WriteError, print};
 pub use reading::{ReadError, read_text};
 pub use sequence::Sequence;
+pub use version::Version;
 pub use whole::Whole;
 pub use writer::Writer;

@@ -12,6 +12,9 @@ pub const MOST_LIARS: u16 = 5;
 /// use makes the next.
 pub const MOST_DUMMIES: u16 = 64;
 
+/// The last version: entries of one action came first, batches second.
+pub const LAST_VERSION: u8 = 2;
+
 /// No view is this or above: each of 16 members leads 64 of them, and a wait doubles no more after
 /// the tenth.
 pub const VIEW_BOUND: u16 = 1_024;
@@ -49,8 +52,15 @@ pub const MOST_TX: usize = 8_192;
 /// each.
 pub const MOST_SESSION: usize = 8_351;
 
-/// The most bytes of an entry: its kind, a vote, and a session.
+/// The most bytes of an entry of one action: its kind, a vote, and a session.
 pub const MOST_ENTRY: usize = 8_353;
+
+/// The most actions of a batch: one agreement serves 32 sessions, and a leaf's place has few bits.
+pub const MOST_ACTIONS: u8 = 32;
+
+/// The most bytes of a batch: half of a datagram, so that a proposal of one fits with room to spare,
+/// and an action of any session fits in a batch.
+pub const MOST_BATCH: usize = 16_384;
 
 /// A record with this many places in its book takes no new session: its memory stays bounded.
 pub const BOOK_PLACES: u16 = 1_024;

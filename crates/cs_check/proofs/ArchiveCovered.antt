@@ -8,6 +8,7 @@ use Rattle.cs_base.specs.Fields.{whole_at}
 use Rattle.cs_merkle.specs.Tree.{split}
 use Rattle.cs_merkle.specs.Path.{path_length_in, path_length}
 use Rattle.cs_tx_value.specs.Object.{DigestFits}
+use Rattle.cs_base.specs.declared.version.Version.TheVariants.{One}
 use Rattle.cs_tx_types.specs.declared.proof.Proof.{Proof}
 use Rattle.cs_tx_types.specs.Log.{leaf_encoding, leaf_at, CheckpointFits, ProofFits}
 use Rattle.cs_tx_types.specs.laws.Log.{leaf_form}
@@ -47,8 +48,8 @@ over_16 place =
 -- ---- a proof of a chain
 
 pub proof_fits : (log : Log) (slot : ℕ) (p : Proof) → AreInPlace log.leaves → slot < 2 ^ 62 → IsProofOf log slot p →
-    (p.leaf.slot ≡ slot → Shows (head_of (checkpoint_of log (slot / 16))) p) → CheckpointFits p.checkpoint →
-    AllByRecursion DigestFits p.path → ProofFits p
+    (p.leaf.slot ≡ slot → Shows (head_of (checkpoint_of log (slot / 16))) p) → CheckpointFits One p.checkpoint →
+    AllByRecursion DigestFits p.path → ProofFits One p
 proof_fits log slot p in_place small is shown checkpoint digests =
     let of_slot : p.leaf.slot ≡ slot = in_place slot p.leaf is.leaf_fits is.leaf in
     let long : length p.path ≡ 4 = (shown of_slot).leads.long ∙ over_16 p.place in
@@ -64,9 +65,9 @@ proof_fits log slot p in_place small is shown checkpoint digests =
 pub proof_is : (log : Log) (slot : ℕ) (p : Proof) → IsProofOf log slot p → slot < 16 * length log.table_roots →
     cut_slot log ≤ slot → Some p ≡ proof_of log slot
 proof_is log slot p is covered uncut =
-    let whole : whole_at leaf_at (leaf_encoding p.leaf) ≡ Some p.leaf =
-    ap (λ (bytes : List ℕ). whole_at leaf_at bytes) (sym (append-nil (leaf_encoding p.leaf)))
-    ∙ rw (leaf_form.again p.leaf [] is.leaf_fits) refl in
+    let whole : whole_at (leaf_at One) (leaf_encoding One p.leaf) ≡ Some p.leaf =
+    ap (λ (bytes : List ℕ). whole_at (leaf_at One) bytes) (sym (append-nil (leaf_encoding One p.leaf)))
+    ∙ rw ((leaf_form One).again p.leaf [] is.leaf_fits) refl in
     let read : leaf_in log slot ≡ Some p.leaf = rw is.leaf whole in
     let above : nat_le (cut_slot log) slot ≡ true = le-leb _ _ uncut in
     let below : nat_lt slot (16 * length log.table_roots) ≡ true = lt-ltb _ _ covered in

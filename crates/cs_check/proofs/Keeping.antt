@@ -4,6 +4,7 @@ use Rattle.std.specs.Prelude.{◌==◌, slice_get, option_map}
 use Rattle.std.proofs.lemmas.Bool.{cases_lt, eq-eqb, ne_eqb, lt-ltb, le-ltb}
 use Rattle.std.proofs.lemmas.List.{drop-append-le, drop-drop, drop_all, take_all, get_or_append_left, get_or_push, get_or-take, get_or-drop, length_push, map_push, length-map}
 use Rattle.std.proofs.lemmas.Option.{slice_get-get_or, slice_get-map, slice_get_past, get_or_from_slice_get, slice_get_within}
+use Rattle.cs_base.specs.declared.version.Version.TheVariants.{One}
 use Rattle.cs_tx_types.specs.declared.checkpoint.Checkpoint.{Checkpoint}
 use Rattle.cs_tx_types.specs.declared.proof.Proof.{Proof}
 use Rattle.cs_tx_types.specs.Log.{leaf_encoding}
@@ -238,6 +239,7 @@ module _ (log : Log) (kept : KeptLog) (is : kept ≡ kept_of log) (holds : IsKep
             previous = previous_is i;
             leaf_root = merkle_tree_hash (part_is i);
             table_root = root_is i;
+            leaves = 16;
           } in
           c_is ∙ here
 
@@ -306,7 +308,7 @@ proof_is log slot c p is at =
     record {
       checkpoint = at.checkpoint ∙ ap (λ (d : Covered). d.checkpoint) is;
       place = at.place;
-      leaf = at_slot log slot (leaf_encoding p.leaf) there;
+      leaf = at_slot log slot (leaf_encoding One p.leaf) there;
       leaf_fits = at.leaf_fits;
       path = at.path ∙ ap (λ (d : Covered). audit_path d.leaves (slot % 16)) is;
     }

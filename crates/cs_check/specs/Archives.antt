@@ -1,5 +1,6 @@
 -- What a node has at hand for checkpoints.
 use Rattle.std.specs.Prelude.{◌≡◌, ℕ, Bool, true, false, List, slice_get, Some}
+use Rattle.cs_base.specs.declared.version.Version.TheVariants.{One}
 use Rattle.cs_tx_types.specs.declared.leaf.Leaf.{Leaf}
 use Rattle.cs_tx_types.specs.declared.checkpoint.Checkpoint.{Checkpoint}
 use Rattle.cs_tx_types.specs.Log.{leaf_encoding, LeafFits}
@@ -17,7 +18,7 @@ pub record Archived : Type 0 where
 -- the leaf of each slot is one of that slot
 abbrev pub AreInPlace : List (List ℕ) → Type 0
 AreInPlace leaves =
-    (slot : ℕ) (leaf : Leaf) → LeafFits leaf → slice_get leaves slot ≡ Some (leaf_encoding leaf) → leaf.slot ≡ slot
+    (slot : ℕ) (leaf : Leaf) → LeafFits One leaf → slice_get leaves slot ≡ Some (leaf_encoding One leaf) → leaf.slot ≡ slot
 
 -- what is kept of such a log
 pub record IsOfLog (kept : KeptLog) : Type 0 where

@@ -1,5 +1,6 @@
 -- What holds of what a chain keeps, and what the next checkpoint makes of it.
 use Rattle.std.specs.Prelude.{◌≡◌, ℕ, ◌+◌, ◌-◌, ◌*◌, ◌<◌, ◌≤◌, nat_lt, if◌then◌else◌, List, [], ◌∷◌, ◌++◌, length, drop, slice_get, slice_index_or, All, Some}
+use Rattle.cs_base.specs.declared.version.Version.TheVariants.{One}
 use Rattle.cs_tx_types.specs.declared.limits.TheConstants.{COVERED}
 use Rattle.cs_tx_types.specs.declared.checkpoint.Checkpoint.{Checkpoint}
 use Rattle.cs_tx_types.specs.declared.proof.Proof.{Proof}
@@ -18,8 +19,8 @@ pub record AreAll (part : List (List ℕ)) : Type 0 where
 pub record IsProofAt (c : Covered) (at : ℕ) (proof : Proof) : Type 0 where
   pub checkpoint : proof.checkpoint ≡ c.checkpoint
   pub place : proof.place ≡ at
-  pub leaf : slice_get c.leaves at ≡ Some (leaf_encoding proof.leaf)
-  pub leaf_fits : LeafFits proof.leaf
+  pub leaf : slice_get c.leaves at ≡ Some (leaf_encoding One proof.leaf)
+  pub leaf_fits : LeafFits One proof.leaf
   pub path : proof.path ≡ audit_path c.leaves at
 
 -- ---- all that is kept
@@ -58,6 +59,7 @@ next_behind shard heads leaves table_root = record {
   previous = last_head heads;
   leaf_root = merkle_tree_hash leaves;
   table_root = table_root;
+  leaves = COVERED;
 }
 
 -- the first of more than 64 is cut

@@ -1,5 +1,6 @@
 //! The slots that a node executed, and the checkpoints that other members told it.
 ghost use Rattle.std.specs.Prelude.{◌≡◌, [], ◌==◌, ◌<◌, ◌^◌, length, position, OnOk, IfOk, IfSome};
+ghost use Rattle.cs_base.specs.declared.version.Version.TheVariants.{One};
 ghost use Rattle.cs_tx_types.specs.Log.{LeafFits, leaf_encoding, ProofFits};
 ghost use Rattle.cs_table.specs.Seen.{seen};
 ghost use Rattle.cs_check.specs.Leaves.{HasLeaves, HasLeavesBut};
@@ -77,16 +78,16 @@ impl Archive {
         leaf: &Leaf,
         table: &Table,
     ) -> Result<Option<Checkpoint>, Memory>
-        requires fits { LeafFits leaf.now }
+        requires fits { LeafFits One leaf.now }
         requires next { leaf.now.slot ≡ self.old.kept.slots }
         requires known { HasLeavesBut table.now.touched self.old.hashed (seen table.now) }
         ensures log { let root = root_under (keys_in table.now.rows) (seen table.now) in
             AtItsLog self.old.kept (λ log. OnOk result
-            (self.new.kept ≡ kept_of (with_slot (leaf_encoding leaf.now) root log))) }
+            (self.new.kept ≡ kept_of (with_slot (leaf_encoding One leaf.now) root log))) }
         ensures heads { OnOk result (self.new.heads ≡ self.old.heads) }
         ensures made { let root = root_under (keys_in table.now.rows) (seen table.now) in
             AtItsLog self.old.kept (λ log. IfOk result (λ made.
-            made ≡ made_last (with_slot (leaf_encoding leaf.now) root log))) }
+            made ≡ made_last (with_slot (leaf_encoding One leaf.now) root log))) }
         ensures leaves { OnOk result (HasLeaves self.new.hashed (seen table.now)) }
     {
         self.whole.check()?;
@@ -102,7 +103,7 @@ impl Archive {
     pub fn prove(&self, alloc: Global, slot: u64) -> Result<Option<Proof>, Memory>
         ensures proof { AtItsLog self.now.kept
             (λ log. IfOk result (λ found. found ≡ proof_of log slot)) }
-        ensures fits { slot < 2 ^ 62 → IfOk result (λ found. IfSome found ProofFits) }
+        ensures fits { slot < 2 ^ 62 → IfOk result (λ found. IfSome found (ProofFits One)) }
     {
         self.whole.check()?;
         match self.chain.prove(alloc, slot) {

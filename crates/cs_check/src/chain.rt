@@ -96,6 +96,7 @@ fn next_checkpoint(
         previous,
         leaf_root: root(leaves),
         table_root,
+        leaves: COVERED as u16,
     }
 }
 

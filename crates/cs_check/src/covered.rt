@@ -65,7 +65,7 @@ impl Covered {
         let hashes = audit_path(alloc, leaves, place)?;
         Ok(Proof {
             checkpoint: self.checkpoint,
-            place: place as u8,
+            place: place as u16,
             leaf,
             path: Sequence::from_vec(hashes),
         })

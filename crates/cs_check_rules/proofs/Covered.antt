@@ -6,6 +6,7 @@ use Rattle.std.proofs.lemmas.List.{get_or-take, get_or-drop}
 use Rattle.std.proofs.lemmas.List.Elements.{Contains-append_right, All-get_or}
 use Rattle.std.proofs.lemmas.Option.{slice_get-get_or, slice_get_within, get_or_from_slice_get, slice_get-map}
 use Rattle.cs_base.specs.Fields.{Found, IsForm}
+use Rattle.cs_base.specs.declared.version.Version.TheVariants.{One}
 use Rattle.cs_tx_types.specs.declared.checkpoint.Checkpoint.{Checkpoint}
 use Rattle.cs_tx_types.specs.declared.leaf.Leaf.{Leaf}
 use Rattle.cs_tx_types.specs.declared.proof.Proof.{Proof}
@@ -36,23 +37,23 @@ one_value {X} write Fits read form x y fits_x fits_y same =
     ap (λ (p : X × List ℕ). p.0) pairs
 
 one_checkpoint : (c : Checkpoint) (leaves : List (List ℕ)) (p : Proof) → CoversLeaves c leaves →
-    ProofFits p → NoProofCollision c leaves p → Shows (head_of c) p → p.checkpoint ≡ c
+    ProofFits One p → NoProofCollision c leaves p → Shows (head_of c) p → p.checkpoint ≡ c
 one_checkpoint c leaves p over fits apart shows =
     let strings : head_string c ≡ head_string p.checkpoint =
     apart (head_string c) (head_string p.checkpoint)
     (first_there (head_string c) (strings_in (tree_of leaves)))
     (first_there (head_string p.checkpoint)
-    (strings_by 16 p.place (leaf_encoding p.leaf) (reverse p.path)))
+    (strings_by 16 p.place (leaf_encoding One p.leaf) (reverse p.path)))
     (sym shows.checkpoint) in
-    let same : checkpoint_encoding p.checkpoint ≡ checkpoint_encoding c = ap (drop 1) (sym strings) in
-    one_value checkpoint_encoding CheckpointFits checkpoint_at checkpoint_form p.checkpoint c
+    let same : checkpoint_encoding One p.checkpoint ≡ checkpoint_encoding One c = ap (drop 1) (sym strings) in
+    one_value (checkpoint_encoding One) (CheckpointFits One) (checkpoint_at One) (checkpoint_form One) p.checkpoint c
     fits.checkpoint over.fits same
 
 pub covered : (c : Checkpoint) (leaves : List (List ℕ)) (p : Proof) → CoversLeaves c leaves →
-    ProofFits p → NoProofCollision c leaves p → Shows (head_of c) p → IsOf c leaves p
+    ProofFits One p → NoProofCollision c leaves p → Shows (head_of c) p → IsOf c leaves p
 covered c leaves p over fits apart shows =
     let same = one_checkpoint c leaves p over fits apart shows in
-    let bytes = leaf_encoding p.leaf in
+    let bytes = leaf_encoding One p.leaf in
     let tree : NoTreeCollision leaves p.place bytes p.path =
     λ a b a_in b_in hashes. apart a b
     (rest_there (head_string c) a (strings_in (tree_of leaves)) a_in)
@@ -67,21 +68,21 @@ covered c leaves p over fits apart shows =
     let (leaf_is, path_is) = shown_is_there leaves p.place bytes p.path tree here in
     record { checkpoint = same; leaf = leaf_is; path = path_is }
 
-pub covered_leaf : (c : Checkpoint) (leaves : List Leaf) (p : Proof) → All LeafFits leaves →
-    CoversLeaves c (map leaf_encoding leaves) → ProofFits p →
-    NoProofCollision c (map leaf_encoding leaves) p → Shows (head_of c) p →
+pub covered_leaf : (c : Checkpoint) (leaves : List Leaf) (p : Proof) → All (LeafFits One) leaves →
+    CoversLeaves c (map (leaf_encoding One) leaves) → ProofFits One p →
+    NoProofCollision c (map (leaf_encoding One) leaves) p → Shows (head_of c) p →
     slice_get leaves p.place ≡ Some p.leaf
 covered_leaf c leaves p all over fits apart shows =
-    let is = covered c (map leaf_encoding leaves) p over fits apart shows in
-    let there = slice_get_within (map leaf_encoding leaves) p.place (leaf_encoding p.leaf) is.leaf in
-    let within : p.place < length leaves = omega (arith, there, length-map leaves leaf_encoding) in
+    let is = covered c (map (leaf_encoding One) leaves) p over fits apart shows in
+    let there = slice_get_within (map (leaf_encoding One) leaves) p.place (leaf_encoding One p.leaf) is.leaf in
+    let within : p.place < length leaves = omega (arith, there, length-map leaves (leaf_encoding One)) in
     let l : Leaf = get_or leaves p.place p.leaf in
     let read : slice_get leaves p.place ≡ Some l = slice_get-get_or leaves p.place p.leaf within in
-    let both : Some (leaf_encoding l) ≡ Some (leaf_encoding p.leaf) =
-    sym (slice_get-map leaf_encoding leaves p.place ∙ ap (option_map leaf_encoding) read) ∙ is.leaf in
-    let same : leaf_encoding l ≡ leaf_encoding p.leaf = cc in
-    read ∙ ap Some (one_value leaf_encoding LeafFits leaf_at leaf_form l p.leaf
-    (All-get_or LeafFits leaves p.place p.leaf within all) fits.leaf same)
+    let both : Some (leaf_encoding One l) ≡ Some (leaf_encoding One p.leaf) =
+    sym (slice_get-map (leaf_encoding One) leaves p.place ∙ ap (option_map (leaf_encoding One)) read) ∙ is.leaf in
+    let same : leaf_encoding One l ≡ leaf_encoding One p.leaf = cc in
+    read ∙ ap Some (one_value (leaf_encoding One) (LeafFits One) (leaf_at One) (leaf_form One) l p.leaf
+    (All-get_or (LeafFits One) leaves p.place p.leaf within all) fits.leaf same)
 
 pub chain_shows : (log : Log) (slot : ℕ) (p : Proof) → 16 * (slot / 16) + 16 ≤ length log.leaves →
     IsProofOf log slot p → p.leaf.slot ≡ slot →
@@ -90,7 +91,7 @@ chain_shows log slot p enough is of_slot =
     let number = slot / 16 in
     let place = slot % 16 in
     let part = covered_leaves log number in
-    let bytes = leaf_encoding p.leaf in
+    let bytes = leaf_encoding One p.leaf in
     let rest = drop (16 * number) log.leaves in
     let long : length part ≡ 16 =
     omega (arith, enough, length-take 16 rest, length-drop (16 * number) log.leaves) in

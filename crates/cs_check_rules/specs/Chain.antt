@@ -1,6 +1,7 @@
 -- The checkpoints of a shard's log, one after every 16 slots, and their heads.
 use Rattle.std.specs.Prelude.{◌≡◌, ℕ, zero, suc, ◌+◌, ◌-◌, ◌*◌, ◌/◌, ◌%◌, ◌==◌, nat_lt, if◌then◌else◌, List, [], ◌∷◌, ◌++◌, length, map, take, drop, replicate, slice_get, slice_index_or, Option, Some, None}
 use Rattle.cs_hash.specs.Hash.{tagged_digest}
+use Rattle.cs_base.specs.declared.version.Version.TheVariants.{One}
 use Rattle.cs_tx_types.specs.declared.limits.TheConstants.{COVERED}
 use Rattle.cs_tx_types.specs.declared.leaf.Leaf.{Leaf}
 use Rattle.cs_tx_types.specs.declared.checkpoint.Checkpoint.{Checkpoint}
@@ -34,8 +35,8 @@ with_slot leaf table_root log = record {
 -- the encoding of a leaf
 pub record IsLeaf (bytes : List ℕ) : Type 0 where
   pub leaf : Leaf
-  pub fits : LeafFits leaf
-  pub encoded : bytes ≡ leaf_encoding leaf
+  pub fits : LeafFits One leaf
+  pub encoded : bytes ≡ leaf_encoding One leaf
 
 -- ---- checkpoints
 
@@ -45,7 +46,7 @@ covered_leaves log number = take COVERED (drop (COVERED * number) log.leaves)
 
 -- SHA-256 of the letter C and the encoding
 abbrev pub head_of : Checkpoint → List ℕ
-head_of c = tagged_digest 67 (checkpoint_encoding c)
+head_of c = tagged_digest 67 (checkpoint_encoding One c)
 
 -- before the first checkpoint there are 32 zero bytes
 abbrev pub no_head : List ℕ
@@ -59,6 +60,7 @@ checkpoint_behind previous log number = record {
   previous = previous;
   leaf_root = merkle_tree_hash (covered_leaves log number);
   table_root = slice_index_or log.table_roots number [];
+  leaves = COVERED;
 }
 
 -- the head of the checkpoint before that of a number
@@ -85,8 +87,8 @@ made_last log =
 pub record IsProofOf (log : Log) (slot : ℕ) (proof : Proof) : Type 0 where
   pub checkpoint : proof.checkpoint ≡ checkpoint_of log (slot / COVERED)
   pub place : proof.place ≡ slot % COVERED
-  pub leaf : slice_get log.leaves slot ≡ Some (leaf_encoding proof.leaf)
-  pub leaf_fits : LeafFits proof.leaf
+  pub leaf : slice_get log.leaves slot ≡ Some (leaf_encoding One proof.leaf)
+  pub leaf_fits : LeafFits One proof.leaf
   pub path : proof.path ≡ audit_path (covered_leaves log (slot / COVERED)) (slot % COVERED)
 
 -- ---- what a chain keeps

@@ -1,6 +1,7 @@
 -- The proof of a slot, as a function of the log.
 use Rattle.std.specs.Prelude.{ℕ, ◌*◌, ◌/◌, ◌%◌, nat_le, nat_lt, Bool, ◌&&◌, if◌then◌else◌, length, slice_get, Option, None, option_and_then, option_map}
 use Rattle.cs_base.specs.Fields.{whole_at}
+use Rattle.cs_base.specs.declared.version.Version.TheVariants.{One}
 use Rattle.cs_tx_types.specs.declared.limits.TheConstants.{COVERED}
 use Rattle.cs_tx_types.specs.declared.leaf.Leaf.{Leaf}
 use Rattle.cs_tx_types.specs.declared.proof.Proof.{Proof}
@@ -10,7 +11,7 @@ use Rattle.cs_check_rules.specs.Chain.{Log, covered_leaves, checkpoint_of, cut_s
 
 -- the leaf of a slot, read of its bytes
 abbrev pub leaf_in : Log → ℕ → Option Leaf
-leaf_in log slot = option_and_then (whole_at leaf_at) (slice_get log.leaves slot)
+leaf_in log slot = option_and_then (whole_at (leaf_at One)) (slice_get log.leaves slot)
 
 -- with the checkpoint that covers it
 abbrev pub proof_with : Log → ℕ → Leaf → Proof

@@ -1,5 +1,6 @@
 //! What a proof that was tested tells of a shard's log.
 ghost use Rattle.std.specs.Prelude.{◌≡◌, ℕ, List, map, slice_get, All, Some};
+ghost use Rattle.cs_base.specs.declared.version.Version.TheVariants.{One};
 ghost use Rattle.cs_tx_types.specs.declared.checkpoint.Checkpoint.{Checkpoint};
 ghost use Rattle.cs_tx_types.specs.declared.leaf.Leaf.{Leaf};
 ghost use Rattle.cs_tx_types.specs.declared.proof.Proof.{Proof};
@@ -12,10 +13,10 @@ ghost use Rattle.cs_check_rules.specs.Shown.{Shows, CoversLeaves, IsOf, NoProofC
 /// checkpoint has at that place.
 pub fn shown_leaf_is_covered()
     ensures bytes { (c : Checkpoint) (leaves : List (List ℕ)) (proof : Proof) →
-        CoversLeaves c leaves → ProofFits proof → NoProofCollision c leaves proof →
+        CoversLeaves c leaves → ProofFits One proof → NoProofCollision c leaves proof →
         Shows (head_of c) proof → IsOf c leaves proof }
     ensures leaf { (c : Checkpoint) (leaves : List Leaf) (proof : Proof) →
-        All LeafFits leaves → CoversLeaves c (map leaf_encoding leaves) → ProofFits proof →
-        NoProofCollision c (map leaf_encoding leaves) proof → Shows (head_of c) proof →
+        All (LeafFits One) leaves → CoversLeaves c (map (leaf_encoding One) leaves) → ProofFits One proof →
+        NoProofCollision c (map (leaf_encoding One) leaves) proof → Shows (head_of c) proof →
         slice_get leaves proof.place ≡ Some proof.leaf }
 {}

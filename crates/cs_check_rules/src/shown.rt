@@ -1,5 +1,6 @@
 //! The test of a proof.
 ghost use Rattle.std.specs.Prelude.{◌≡◌, ◌+◌, ◌*◌, ◌↔◌, IsTrue, IfOk};
+ghost use Rattle.cs_base.specs.declared.version.Version.TheVariants.{One};
 ghost use Rattle.cs_tx_types.specs.declared.limits.TheConstants.{COVERED};
 ghost use Rattle.cs_tx_types.specs.Log.{LeafFits};
 ghost use Rattle.cs_check_rules.specs.Shown.{Shows};
@@ -14,7 +15,7 @@ use cs_tx_types::COVERED;
 use std::alloc::Global;
 
 // Whether a slot is the one at this place of the 16 that the checkpoint of this number covers.
-fn is_at(slot: u64, number: u64, place: u8) -> bool
+fn is_at(slot: u64, number: u64, place: u16) -> bool
     ensures { IsTrue result ↔ (slot ≡ COVERED * number + place) }
 {
     match slot.checked_sub(u64::from(place)) {
@@ -26,7 +27,7 @@ fn is_at(slot: u64, number: u64, place: u8) -> bool
 /// Whether a proof shows its leaf to who knows that a checkpoint has this head, say from more nodes
 /// of the shard than lie.
 pub fn shows(alloc: Global, head: &Digest, proof: &Proof) -> Result<bool, Memory>
-    requires { LeafFits proof.now.leaf }
+    requires { LeafFits One proof.now.leaf }
     ensures { IfOk result (λ shows. IsTrue shows ↔ Shows head.now proof.now) }
 {
     let checkpoint = &proof.checkpoint;

@@ -1,5 +1,5 @@
 -- What is printed of keys is read again.
-use Rattle.std.proofs.Common.{◌≡◌, ℕ, ◌^◌, ◌<◌, ◌≤◌, true, List, [], ◌∷◌, map, Some, Ok, refl, ap, ◌∙◌, arith}
+use Rattle.std.proofs.Common.{◌≡◌, ℕ, ◌^◌, ◌<◌, ◌≤◌, true, List, [], ◌∷◌, map, Some, Ok, refl, sym, ap, ◌∙◌, arith}
 use Rattle.std.specs.Prelude.{IsOkAnd}
 use Rattle.std.specs.Str.{IsUtf8}
 use Rattle.std.proofs.lemmas.Bool.Decides.{nat_tests}
@@ -7,6 +7,8 @@ use Rattle.hex.specs.Hex.{encode_lower}
 use Rattle.hex.proofs.HexLemmas.{decode_of-encode_lower}
 use Rattle.toml.specs.Data.{string, table, items_depth, members_depth, items_have_valid_dates, members_have_valid_dates}
 use Rattle.toml.specs.Parse.{parse_document}
+use Rattle.cs_base.specs.Version.{version_of}
+use Rattle.cs_base.specs.declared.version.Version.TheVariants.{One}
 use Rattle.cs_base.specs.declared.config.Config.{Config}
 use Rattle.cs_base.specs.declared.node_id.NodeId.{NodeId}
 use Rattle.cs_base.specs.NodeId.{is_named, node_text}
@@ -80,12 +82,12 @@ undated me list = rw (undated_peers list) refl
 
 -- ---- keys
 
-keys_back : (config : Config) (master : List ℕ) (me : NodeId) → listed_keys config me (list_with master me (names_of config)) ≡ Ok (record { me = me; rows = map row_listed (list_with master me (names_of config)) })
+keys_back : (config : Config) (master : List ℕ) (me : NodeId) → listed_keys config me (list_with master me (names_of config)) ≡ Ok (record { me = me; rows = map row_listed (list_with master me (names_of config)); version = One })
 keys_back config master me = rw (complete master me config, once master me config) refl
 
 pub file_back : (config : Config) (master : List ℕ) (me : NodeId) (list : List Listed) (text : List ℕ) → is_named config me ≡ true → list ≡ list_with master me (names_of config) → AllListedFit list → IsUtf8 text → parse_document text ≡ Some (keys_data me list)
-    → IsOkAnd (keys_of config text) (IsOfMaster config master me)
-file_back config master me list text named is fits utf8 parsed =
-    let whole : keys_of config text ≡ Ok (record { me = me; rows = map row_listed (list_with master me (names_of config)) }) =
+    → config.version ≡ 1 → IsOkAnd (keys_of config text) (IsOfMaster config master me)
+file_back config master me list text named is fits utf8 parsed first =
+    let whole : keys_of config text ≡ Ok (record { me = me; rows = map row_listed (list_with master me (names_of config)); version = One }) =
     rw (table_of-text text (Some (keys_data me list)) utf8 parsed, me_back config me list named, peers_back me list fits) (ap (listed_keys config me) is ∙ keys_back config master me) in
-    rw whole (record { me = refl; rows = rows_named master me config })
+    rw whole (record { me = refl; version = sym (ap version_of first); rows = rows_named master me config })

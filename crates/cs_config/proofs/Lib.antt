@@ -12,3 +12,4 @@ mod KeyTexts
 mod Filed
 mod Named
 mod Addresses
+pub mod First

@@ -4,6 +4,7 @@ use Rattle.toml.specs.Data.{Members}
 use Rattle.cs_base.specs.declared.config.Config.{Config}
 use Rattle.cs_base.specs.declared.node_id.NodeId.{NodeId}
 use Rattle.cs_base.specs.NodeId.{is_named}
+use Rattle.cs_base.specs.declared.version.Version.TheVariants.{One}
 use Rattle.cs_wire.specs.Keys.{Listed, row_listed, peer_twice}
 use Rattle.cs_wire.specs.declared.keys.Keys.{Keys}
 use Rattle.cs_config.specs.Reading.{◌>>=◌, toml_table_of, one_of, each_of}
@@ -25,11 +26,11 @@ peers_in members = do
   peers ← each_of peer_in field.Peers members
   Ok (map (λ peer. peer.0) peers)
 
--- the keys of a list that is complete, and in which no peer stands twice, or is me
+-- the keys, in version 1, of a list that is complete, and in which no peer stands twice, or is me
 abbrev pub listed_keys : Config → NodeId → List Listed → Result Keys ConfigError
 listed_keys config me list =
     if is_complete config me list && is_none (peer_twice me [] 0 list)
-    then Ok (record { me = me; rows = map row_listed list })
+    then Ok (record { me = me; rows = map row_listed list; version = One })
     else Err (Field field.Peers)
 
 -- what a key file of a configuration says, or why it is refused

@@ -35,10 +35,10 @@ abbrev pub keys_text : Config → List ℕ → NodeId → List ℕ
 keys_text config master me =
     text_line (codes "me") (node_text me) ++ peers_text (list_with master me (names_of config))
 
--- the file has this text and no other, by which a reader has the keys that the master gives the name
+-- the file has this text and no other, by which a reader has the keys that the master gives the name, in version 1
 pub record IsKeyFile (config : Config) (master : List ℕ) (me : NodeId) (text : List ℕ) : Type 0 where
   pub is : text ≡ keys_text config master me
-  pub keys : IsOkAnd (keys_of config text) (IsOfMaster config master me)
+  pub keys : config.version ≡ 1 → IsOkAnd (keys_of config text) (IsOfMaster config master me)
 
 -- two master keys give the name the same keys
 abbrev pub GiveSameKeys : Config → NodeId → List ℕ → List ℕ → Type 0

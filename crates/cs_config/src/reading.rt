@@ -66,7 +66,7 @@ fn make_keys(
     if !is_complete(config, me, list) {
         return Err(ConfigError::Field(FileField::Peers));
     }
-    match Keys::from_list(alloc, me, list) {
+    match Keys::from_list(alloc, me, list, 1) {
         Ok(keys) => Ok(keys),
         Err(KeysError::Memory) => Err(ConfigError::Memory),
         Err(KeysError::Twice(_)) => Err(ConfigError::Field(FileField::Peers)),

@@ -14,3 +14,5 @@ mod table_dummy_tests;
 mod table_tests;
 #[cfg(test)]
 mod tx_tests;
+#[cfg(test)]
+mod version_tests;

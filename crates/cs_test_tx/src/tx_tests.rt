@@ -146,15 +146,17 @@ fn comes_back<T: Encoded>(rt: &impl Abort, alloc: Global, value: T) -> Result<()
 }
 
 #[test]
-fn entries_come_back(rt: HostRuntime) -> Result<(), Fail> {
+fn actions_come_back(rt: HostRuntime) -> Result<(), Fail> {
     let alloc = rt.alloc();
     let x = session(alloc, split(alloc, 1, TOKEN)?)?;
-    comes_back(&rt, alloc, Entry::Prepare(x))?;
+    comes_back(&rt, alloc, Action::Prepare(x))?;
     let x = session(alloc, split(alloc, 1, TOKEN)?)?;
-    comes_back(&rt, alloc, Entry::Decide(Vote::Commit, x))?;
-    let entry = Entry::Prepare(session(alloc, split(alloc, 1, TOKEN)?)?);
-    assert!(rt; entry.fits());
-    assert!(rt; entry_digest(alloc, &entry)? != SESSION_DIGEST);
+    comes_back(&rt, alloc, Action::Decide(Vote::Commit, x))?;
+    let mut actions = Sequence::new(alloc);
+    actions.push(Action::Prepare(session(alloc, split(alloc, 1, TOKEN)?)?))?;
+    let entry = Entry { actions };
+    assert!(rt; entry.fits(1));
+    assert!(rt; entry_digest(alloc, &entry, 1)? != SESSION_DIGEST);
     Ok(())
 }
 
@@ -162,6 +164,6 @@ fn entries_come_back(rt: HostRuntime) -> Result<(), Fail> {
 fn what_is_too_long_is_not_read(rt: HostRuntime) {
     assert!(rt; Tx::check_form(&[0; 8193]) == Err(FormError::TooLong));
     assert!(rt; Session::check_form(&[0; 8352]) == Err(FormError::TooLong));
-    assert!(rt; Entry::check_form(&[0; 8353]) == Err(FormError::BadForm));
-    assert!(rt; Entry::check_form(&[0; 8354]) == Err(FormError::TooLong));
+    assert!(rt; Action::check_form(&[0; 8353]) == Err(FormError::BadForm));
+    assert!(rt; Action::check_form(&[0; 8354]) == Err(FormError::TooLong));
 }

@@ -9,9 +9,11 @@ use Rattle.cs_tx_value.specs.Object.{object_encoding}
 use Rattle.cs_tx_types.specs.declared.trace.Trace.{Trace}
 use Rattle.cs_tx_types.specs.declared.transaction.Tx.{Tx}
 use Rattle.cs_tx_types.specs.declared.session.Session.{Session}
+use Rattle.cs_base.specs.declared.version.Version.{Version}
 use Rattle.cs_tx_types.specs.declared.entry.Entry.{Entry}
 use Rattle.cs_tx_types.specs.Transaction.{Keyed, tx_encoding}
-use Rattle.cs_tx_types.specs.Session.{session_encoding, entry_encoding}
+use Rattle.cs_tx_types.specs.Session.{session_encoding}
+use Rattle.cs_tx_types.specs.Entry.{entry_encoding}
 
 -- of encodings, under the letters T, S and E
 abbrev pub digest_of_tx : Tx → List ℕ
@@ -20,8 +22,8 @@ digest_of_tx tx = tagged_digest 84 (tx_encoding tx)
 abbrev pub digest_of_session : Session → List ℕ
 digest_of_session x = tagged_digest 83 (session_encoding x)
 
-abbrev pub digest_of_entry : Entry → List ℕ
-digest_of_entry entry = tagged_digest 69 (entry_encoding entry)
+abbrev pub digest_of_entry : Version → Entry → List ℕ
+digest_of_entry version entry = tagged_digest 69 (entry_encoding version entry)
 
 -- the name of the genesis object of this number, under the letter G
 abbrev pub name_of_genesis : ℕ → Object → List ℕ

@@ -4,13 +4,15 @@ ghost use Rattle.cs_tx_value.specs.Object.{ObjectFits};
 ghost use Rattle.std.specs.List.{AllByRecursion};
 ghost use Rattle.cs_tx_types.specs.declared.limits.TheConstants.{MOST_TRACES, MOST_TRACE_OBJECTS};
 ghost use Rattle.cs_tx_types.specs.Transaction.{TraceFits, TxFits};
-ghost use Rattle.cs_tx_types.specs.Session.{SessionFits, EntryFits};
+ghost use Rattle.cs_tx_types.specs.Session.{SessionFits};
+ghost use Rattle.cs_base.specs.Version.{IsVersion, version_of};
+ghost use Rattle.cs_tx_types.specs.Entry.{EntryFits};
 ghost use Rattle.cs_tx.specs.Digest.{digest_of_tx, digest_of_session, digest_of_entry, name_of_output, name_of_genesis, outputs_at, outputs_from, keys, keys_of_outputs};
 ghost use Rattle.cs_base.specs.declared.key.Key.TheVariants.{Object as object_key};
 
-use cs_base::{Key, Memory, Sequence, Writer};
+use cs_base::{Key, Memory, Sequence, Version, Writer};
 use cs_hash::tagged;
-use cs_tx_types::{Entry, Session, Trace, Tx};
+use cs_tx_types::{Entry, Session, Trace, Tx, Versioned};
 use cs_tx_value::{Digest, Encoded, Object};
 use sha2::{Digest as Hasher, Sha256};
 use std::alloc::Global;
@@ -31,12 +33,15 @@ pub fn session_digest(alloc: Global, session: &Session) -> Result<Digest, Memory
     Ok(tagged(b'S', &session.to_bytes(alloc)?))
 }
 
-/// SHA-256 of the letter E and the encoding.
-pub fn entry_digest(alloc: Global, entry: &Entry) -> Result<Digest, Memory>
-    requires { EntryFits entry.now }
-    ensures { IfOk result (λ digest. digest ≡ digest_of_entry entry.now) }
+/// SHA-256 of the letter E and the encoding in the version of this number.
+pub fn entry_digest(alloc: Global, entry: &Entry, version: u8) -> Result<Digest, Memory>
+    requires version { IsVersion version }
+    requires fits { EntryFits (version_of version) entry.now }
+    ensures { IfOk result (λ digest.
+        digest ≡ digest_of_entry (version_of version) entry.now) }
 {
-    Ok(tagged(b'E', &entry.to_bytes(alloc)?))
+    let version = Version::of(version);
+    Ok(tagged(b'E', &entry.to_bytes(alloc, version)?))
 }
 
 /// The key of the genesis object of this number: SHA-256 of the letter G, the number and the

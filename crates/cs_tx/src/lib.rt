@@ -11,7 +11,8 @@ mod token;
 mod uses;
 
 pub use cs_tx_types::{
-    Checkpoint, Effect, Entry, Leaf, Proof, Record, Session, State, Stored, Trace, Tx, Vote,
+    Action, Checkpoint, Effect, Entry, Leaf, Proof, Record, Session, State, Stored, Trace, Tx,
+    Versioned, Vote,
 };
 pub use cs_tx_value::{Digest, Encoded, FormError, Name, Object, Value};
 pub use digests::{entry_digest, genesis_key, output_keys, output_name, session_digest, tx_digest};

@@ -2,6 +2,7 @@ pub mod Transaction
 pub mod Session
 pub mod State
 pub mod Reading
+pub mod Entry
 pub mod Sized
 pub mod Record
 pub mod Log

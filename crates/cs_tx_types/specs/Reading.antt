@@ -17,8 +17,8 @@ use Rattle.cs_tx_types.specs.declared.transaction.Tx.{Tx}
 use Rattle.cs_tx_types.specs.declared.session.Session.{Session}
 use Rattle.cs_tx_types.specs.declared.vote.Vote.{Vote}
 use Rattle.cs_tx_types.specs.declared.vote.Vote.TheVariants as vote
-use Rattle.cs_tx_types.specs.declared.entry.Entry.{Entry}
-use Rattle.cs_tx_types.specs.declared.entry.Entry.TheVariants as entry
+use Rattle.cs_tx_types.specs.declared.action.Action.{Action}
+use Rattle.cs_tx_types.specs.declared.action.Action.TheVariants as action
 use Rattle.cs_tx_types.specs.declared.state.State.{State}
 use Rattle.cs_tx_types.specs.declared.state.State.TheVariants as state
 use Rattle.cs_tx_types.specs.State.{readers_differ}
@@ -64,7 +64,7 @@ trace_at bytes = trace_of_parts <$> pair_at front_at back_at bytes
 unfoldable pub tx_at : List ℕ → Found Tx
 tx_at = within_at MOST_TX (λ bytes. tx_of <$> some_at MOST_TRACES trace_at bytes)
 
--- ---- sessions, votes and entries
+-- ---- sessions, votes and actions
 
 abbrev pub dummy_at : List ℕ → Found (ℕ × ℕ)
 dummy_at = pair_at (number_at w16) (number_at w64)
@@ -84,16 +84,16 @@ vote_kind_at (suc (suc kind)) bytes = None
 abbrev pub vote_at : List ℕ → Found Vote
 vote_at = kinds_at vote_kind_at
 
-abbrev pub decide_entry : Vote × Session → Entry
-decide_entry p = entry.Decide p.0 p.1
+abbrev pub decide_action : Vote × Session → Action
+decide_action p = action.Decide p.0 p.1
 
-abbrev pub entry_kind_at : ℕ → List ℕ → Found Entry
-entry_kind_at zero bytes = entry.Prepare <$> session_at bytes
-entry_kind_at (suc zero) bytes = decide_entry <$> pair_at vote_at session_at bytes
-entry_kind_at (suc (suc kind)) bytes = None
+abbrev pub action_kind_at : ℕ → List ℕ → Found Action
+action_kind_at zero bytes = action.Prepare <$> session_at bytes
+action_kind_at (suc zero) bytes = decide_action <$> pair_at vote_at session_at bytes
+action_kind_at (suc (suc kind)) bytes = None
 
-abbrev pub entry_at : List ℕ → Found Entry
-entry_at = kinds_at entry_kind_at
+abbrev pub action_at : List ℕ → Found Action
+action_at = kinds_at action_kind_at
 
 -- ---- states
 

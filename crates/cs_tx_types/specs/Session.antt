@@ -1,4 +1,4 @@
--- The encodings and limits of sessions, votes and entries.
+-- The encodings and limits of sessions, votes and actions.
 use Rattle.std.specs.Prelude.{ℕ, ◌<◌, ◌^◌, List, [], ◌∷◌, ◌++◌}
 use Rattle.std.specs.Int.{w16, w64, to_be_bytes}
 use Rattle.cs_base.specs.Fields.{counted}
@@ -7,8 +7,8 @@ use Rattle.cs_tx_types.specs.declared.limits.TheConstants.{MOST_SESSION_DUMMIES}
 use Rattle.cs_tx_types.specs.declared.session.Session.{Session}
 use Rattle.cs_tx_types.specs.declared.vote.Vote.{Vote}
 use Rattle.cs_tx_types.specs.declared.vote.Vote.TheVariants.{Abort, Commit}
-use Rattle.cs_tx_types.specs.declared.entry.Entry.{Entry}
-use Rattle.cs_tx_types.specs.declared.entry.Entry.TheVariants.{Prepare, Decide}
+use Rattle.cs_tx_types.specs.declared.action.Action.{Action}
+use Rattle.cs_tx_types.specs.declared.action.Action.TheVariants.{Prepare, Decide}
 use Rattle.cs_tx_types.specs.Transaction.{tx_encoding, TxFits}
 
 -- a dummy's shard and serial
@@ -30,14 +30,14 @@ abbrev pub vote_encoding : Vote → List ℕ
 vote_encoding Abort = 0 ∷ []
 vote_encoding Commit = 1 ∷ []
 
-abbrev pub entry_encoding : Entry → List ℕ
-entry_encoding (Prepare x) = 0 ∷ session_encoding x
-entry_encoding (Decide vote x) = 1 ∷ (vote_encoding vote ++ session_encoding x)
+abbrev pub action_encoding : Action → List ℕ
+action_encoding (Prepare x) = 0 ∷ session_encoding x
+action_encoding (Decide vote x) = 1 ∷ (vote_encoding vote ++ session_encoding x)
 
-abbrev pub EntryFits : Entry → Type 0
-EntryFits (Prepare x) = SessionFits x
-EntryFits (Decide vote x) = SessionFits x
+abbrev pub ActionFits : Action → Type 0
+ActionFits (Prepare x) = SessionFits x
+ActionFits (Decide vote x) = SessionFits x
 
-abbrev pub session_in : Entry → Session
+abbrev pub session_in : Action → Session
 session_in (Prepare x) = x
 session_in (Decide vote x) = x

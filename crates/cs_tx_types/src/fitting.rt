@@ -2,7 +2,8 @@
 ghost use Rattle.std.specs.Prelude.{◌<◌, ◌^◌};
 ghost use Rattle.cs_tx_value.specs.Object.{DigestFits};
 ghost use Rattle.cs_tx_value.specs.Key.{KeyFits};
-ghost use Rattle.cs_tx_types.specs.Log.{CheckpointFits};
+ghost use Rattle.cs_base.specs.declared.version.Version.{Version as Edition};
+ghost use Rattle.cs_tx_types.specs.Log.{CheckpointFits, LeavesFit};
 
 use crate::checkpoint::Checkpoint;
 use cs_base::Key;
@@ -32,9 +33,10 @@ fn numbers_fit(shard: u16, number: u64)
     ensures number { number < 2 ^ 64 }
 {}
 
-/// A checkpoint is within all limits.
+/// A checkpoint is within all limits of a version where its number of leaves is.
 pub fn checkpoint_fits(checkpoint: &Checkpoint)
-    ensures { CheckpointFits checkpoint.now }
+    ensures { (version : Edition) → LeavesFit version checkpoint.now.leaves
+        → CheckpointFits version checkpoint.now }
 {
     digest_fits(&checkpoint.previous);
     digest_fits(&checkpoint.leaf_root);

@@ -21,5 +21,11 @@ pub const COVERED: u64 = 16;
 /// The last place among the slots that a checkpoint covers.
 pub const LAST_PLACE: u8 = 15;
 
+/// The same where each of the 16 slots has 32 actions.
+pub const LAST_BATCH_PLACE: u16 = 511;
+
 /// The most hashes of a proof's path: a tree over the leaves of 16 slots is 4 deep.
 pub const MOST_PATH: u8 = 4;
+
+/// The same where each of the 16 slots has 32 actions.
+pub const MOST_BATCH_PATH: u8 = 9;

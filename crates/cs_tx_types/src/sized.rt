@@ -8,7 +8,7 @@ use cs_tx_value::{Encoded, FormError};
 use std::alloc::Global;
 
 /// The greatest length that four bytes hold.
-const LONGEST: usize = 4294967295;
+pub(crate) const LONGEST: usize = 4294967295;
 
 /// A length, and a value of just so many bytes.
 #[tactic(auto, unfolding(crate::specs::Sized::sized_at))]

@@ -5,18 +5,18 @@ use Rattle.cs_base.specs.declared.config.Config.{Config}
 use Rattle.cs_base.specs.declared.node_id.NodeId.{NodeId}
 use Rattle.cs_base.specs.NodeId.{is_named, same_name}
 use Rattle.cs_base.specs.Fields.{IsBytes}
+use Rattle.cs_base.specs.declared.version.Version.{Version}
 use Rattle.cs_wire_message.specs.declared.message.Message.{Message}
 use Rattle.cs_wire_message.specs.Message.{kind_of, body_of, is_kind}
 use Rattle.cs_wire_message.specs.Body.{Has, message_whole}
 use Rattle.cs_wire_message.proofs.Wholes.{whole_has, has_whole}
 use Rattle.cs_wire.specs.declared.head.Head.{Head}
-use Rattle.cs_wire.specs.declared.head.TheConstants.{MAGIC}
 use Rattle.cs_wire.specs.declared.keys.Row.{Row}
 use Rattle.cs_wire.specs.declared.keys.Keys.{Keys}
 use Rattle.cs_wire.specs.declared.opening.OpenError.{OpenError}
 use Rattle.cs_wire.specs.declared.opening.OpenError.TheVariants as errors
 use Rattle.cs_wire.specs.declared.view.MessageView.{MessageView}
-use Rattle.cs_wire.specs.Datagram.{sealed, body_in, datagram_with}
+use Rattle.cs_wire.specs.Datagram.{magic_of, sealed, body_in, datagram_with}
 use Rattle.cs_wire.specs.Heads.{head_seen}
 use Rattle.cs_wire.specs.Keys.{row_of_peer, row_of, row_between, row_expected, IsOfMaster}
 use Rattle.cs_wire.specs.Opens.{ShowsMessage, open_fault, head_fault, keyed_fault, HasNoBody, Opens, unless}
@@ -29,8 +29,8 @@ use Rattle.cs_wire.proofs.Unsealed.{is_clear}
 
 -- ---- sealing
 
-pub sealed_is : (key : List ℕ) (from to : NodeId) (m : Message) → sealed key from to m ≡ datagram_with key from to (kind_of m) (body_of m)
-sealed_is key from to m = refl
+pub sealed_is : (version : Version) (key : List ℕ) (from to : NodeId) (m : Message) → sealed version key from to m ≡ datagram_with version key from to (kind_of m) (body_of version m)
+sealed_is version key from to m = refl
 
 -- ---- reading
 
@@ -38,31 +38,31 @@ sealed_is key from to m = refl
 pub opened_ok : (keys : Keys) (bytes : List ℕ) (found : NodeId × MessageView) (m : Message) → Opens keys bytes (Ok found) → ShowsMessage found.1 m → Ok (found.0, m) ≡ opened keys bytes
 opened_ok keys bytes found m o shown =
     let c = is_clear keys bytes found.0 o.0 o.1 in
-    let one : Some o.0 ≡ Some m = sym (has_whole found.1.kind found.1.body.now o.0 o.2) ∙ has_whole found.1.kind found.1.body.now m shown in
-    let whole : message_whole (kind_of o.0) (body_in bytes) ≡ Some m = has_whole (kind_of o.0) (body_in bytes) o.0 c.has ∙ one in
+    let one : Some o.0 ≡ Some m = sym (has_whole found.1.version found.1.kind found.1.body.now o.0 o.2) ∙ has_whole found.1.version found.1.kind found.1.body.now m shown in
+    let whole : message_whole keys.version (kind_of o.0) (body_in bytes) ≡ Some m = has_whole keys.version (kind_of o.0) (body_in bytes) o.0 c.has ∙ one in
     sym (
-    ap (λ (e : Option OpenError). unless_fault e (opened_body bytes (head_seen bytes))) c.none
-    ∙ ap (opened_body bytes) c.seen
+    ap (λ (e : Option OpenError). unless_fault e (opened_body keys.version bytes (head_seen bytes))) c.none
+    ∙ ap (opened_body keys.version bytes) c.seen
     ∙ ap (said_by found.0) whole
     )
 
 fault_is : (keys : Keys) (bytes : List ℕ) (e : OpenError) → open_fault keys bytes ≡ Some e → Err e ≡ opened keys bytes
-fault_is keys bytes e is = sym (ap (λ (f : Option OpenError). unless_fault f (opened_body bytes (head_seen bytes))) is)
+fault_is keys bytes e is = sym (ap (λ (f : Option OpenError). unless_fault f (opened_body keys.version bytes (head_seen bytes))) is)
 
 -- what is long enough to have no fault has a head
 headless : (keys : Keys) (bytes : List ℕ) (short : Bool) → cond short (Some errors.Short) (head_fault keys bytes None) ≡ None → ⊥
 headless keys bytes true e = absurd cc
 headless keys bytes false e = absurd cc
 
-no_message : (kind : ℕ) (body : List ℕ) (found : Option Message) → message_whole kind body ≡ found → IsBytes body → ((m : Message) × Has kind body m → ⊥) → found ≡ None
-no_message kind body None is byte none = refl
-no_message kind body (Some m) is byte none = absurd (none (m, whole_has kind body m byte is))
+no_message : (version : Version) (kind : ℕ) (body : List ℕ) (found : Option Message) → message_whole version kind body ≡ found → IsBytes body → ((m : Message) × Has version kind body m → ⊥) → found ≡ None
+no_message version kind body None is byte none = refl
+no_message version kind body (Some m) is byte none = absurd (none (m, whole_has version kind body m byte is))
 
-bodiless : (keys : Keys) (bytes : List ℕ) (found : Option Head) → head_seen bytes ≡ found → open_fault keys bytes ≡ None → IsBytes (body_in bytes) → HasNoBody bytes found → Err errors.Body ≡ opened_body bytes found
+bodiless : (keys : Keys) (bytes : List ℕ) (found : Option Head) → head_seen bytes ≡ found → open_fault keys bytes ≡ None → IsBytes (body_in bytes) → HasNoBody keys.version bytes found → Err errors.Body ≡ opened_body keys.version bytes found
 bodiless keys bytes None is clear byte none =
     absurd (headless keys bytes (nat_lt (length bytes) 49) (sym (ap (λ (h : Option Head). cond (nat_lt (length bytes) 49) (Some errors.Short) (head_fault keys bytes h)) is) ∙ clear))
 bodiless keys bytes (Some head) is clear byte none =
-    sym (ap (said_by head.from) (no_message head.kind (body_in bytes) (message_whole head.kind (body_in bytes)) refl byte none))
+    sym (ap (said_by head.from) (no_message keys.version head.kind (body_in bytes) (message_whole keys.version head.kind (body_in bytes)) refl byte none))
 
 -- what wasn't opened failed the test that is named
 pub opened_err : (keys : Keys) (bytes : List ℕ) (e : OpenError) → IsBytes (body_in bytes) → Opens keys bytes (Err e) → Err e ≡ opened keys bytes
@@ -75,7 +75,7 @@ opened_err keys bytes errors.Length byte o = fault_is keys bytes errors.Length o
 opened_err keys bytes errors.Tag byte o = fault_is keys bytes errors.Tag o
 opened_err keys bytes errors.Body byte o =
     bodiless keys bytes (head_seen bytes) refl o.0 byte o.1
-    ∙ sym (ap (λ (f : Option OpenError). unless_fault f (opened_body bytes (head_seen bytes))) o.0)
+    ∙ sym (ap (λ (f : Option OpenError). unless_fault f (opened_body keys.version bytes (head_seen bytes))) o.0)
 
 -- ---- rows
 
@@ -108,22 +108,24 @@ row_alike config master me peer = row_within master me peer (names_of config) �
 
 -- ---- keys of one holder with the same rows
 
-module _ (keys keys2 : Keys) (mine : keys.me ≡ keys2.me) (rows : (peer : NodeId) → row_of peer keys ≡ row_of peer keys2) (bytes : List ℕ) where
+module _ (keys keys2 : Keys) (mine : keys.me ≡ keys2.me) (one : keys.version ≡ keys2.version) (rows : (peer : NodeId) → row_of peer keys ≡ row_of peer keys2) (bytes : List ℕ) where
   head_alike : (found : Option Head) → head_fault keys bytes found ≡ head_fault keys2 bytes found
   head_alike None = refl
   head_alike (Some head) =
-      let F : NodeId → Option Row → Option OpenError = λ me row.
-      unless (bytes_eq head.magic MAGIC) errors.Magic
+      let F : Version → NodeId → Option Row → Option OpenError = λ version me row.
+      unless (bytes_eq head.magic (magic_of version)) errors.Magic
       (unless (is_kind head.kind) errors.Kind
       (unless (same_name head.to me) errors.NotMine
       (keyed_fault head bytes row))) in
-      ap (λ (me : NodeId). F me (row_of head.from keys)) mine ∙ ap (F keys2.me) (rows head.from)
+      ap (λ (version : Version). F version keys.me (row_of head.from keys)) one
+      ∙ ap (λ (me : NodeId). F keys2.version me (row_of head.from keys)) mine ∙ ap (F keys2.version keys2.me) (rows head.from)
 
   alike : opened keys bytes ≡ opened keys2 bytes
   alike =
       let faults : open_fault keys bytes ≡ open_fault keys2 bytes = ap (cond (nat_lt (length bytes) 49) (Some errors.Short)) (head_alike (head_seen bytes)) in
-      ap (λ (f : Option OpenError). unless_fault f (opened_body bytes (head_seen bytes))) faults
+      ap (λ (f : Option OpenError). unless_fault f (opened_body keys.version bytes (head_seen bytes))) faults
+      ∙ ap (λ (version : Version). unless_fault (open_fault keys2 bytes) (opened_body version bytes (head_seen bytes))) one
 
 pub opened_alike : (config : Config) (master : List ℕ) (me : NodeId) (keys : Keys) (bytes : List ℕ) → IsOfMaster config master me keys → opened keys bytes ≡ opened (keys_of_master config master me) bytes
 opened_alike config master me keys bytes is =
-    alike keys (keys_of_master config master me) is.me (λ peer. is.rows peer ∙ sym (row_alike config master me peer)) bytes
+    alike keys (keys_of_master config master me) is.me is.version (λ peer. is.rows peer ∙ sym (row_alike config master me peer)) bytes

@@ -6,17 +6,17 @@ use Rattle.cs_base.specs.declared.node_id.NodeId.{NodeId}
 use Rattle.cs_base.specs.Fields.{IsBytes}
 use Rattle.cs_base.specs.NodeId.{same_name}
 use Rattle.cs_base.proofs.Forms.{IsBytes-drop, IsBytes-take}
+use Rattle.cs_base.specs.declared.version.Version.{Version}
 use Rattle.cs_wire_message.specs.declared.message.Message.{Message}
 use Rattle.cs_wire_message.specs.Message.{kind_of, is_kind}
 use Rattle.cs_wire_message.specs.Body.{IsBody, message_whole}
 use Rattle.cs_wire_message.proofs.Wholes.{whole_has, has_whole}
 use Rattle.cs_wire.specs.declared.head.Head.{Head}
-use Rattle.cs_wire.specs.declared.head.TheConstants.{MAGIC}
 use Rattle.cs_wire.specs.declared.keys.Row.{Row}
 use Rattle.cs_wire.specs.declared.keys.Keys.{Keys}
 use Rattle.cs_wire.specs.declared.opening.OpenError.{OpenError}
 use Rattle.cs_wire.specs.declared.opening.OpenError.TheVariants as errors
-use Rattle.cs_wire.specs.Datagram.{is_sized, has_tag, body_in}
+use Rattle.cs_wire.specs.Datagram.{magic_of, is_sized, has_tag, body_in}
 use Rattle.cs_wire.specs.Heads.{head_seen}
 use Rattle.cs_wire.specs.Keys.{row_of}
 use Rattle.cs_wire.specs.Opens.{IsSealed, unless, keyed_fault, head_fault, open_fault, HasNoBody}
@@ -44,7 +44,7 @@ head_not_body keys bytes (Some head) e =
     let keyed_later = keyed_fault head bytes (row_of head.from keys) in
     let mine_later = unless (same_name head.to keys.me) errors.NotMine keyed_later in
     let kind_later = unless (is_kind head.kind) errors.Kind mine_later in
-    not_body (bytes_eq head.magic MAGIC) errors.Magic kind_later (λ other. cc)
+    not_body (bytes_eq head.magic (magic_of keys.version)) errors.Magic kind_later (λ other. cc)
     (λ kind. not_body (is_kind head.kind) errors.Kind mine_later (λ other. cc)
     (λ mine. not_body (same_name head.to keys.me) errors.NotMine keyed_later (λ other. cc) (keyed_not_body head bytes (row_of head.from keys)) mine) kind) e
 
@@ -83,29 +83,29 @@ module _ (keys : Keys) (bytes : List ℕ) where
 
   -- ---- the two directions
 
-  to_body : (head : Head) → IsBytes bytes → head_seen bytes ≡ Some head → open_fault keys bytes ≡ None → (found : Option Message) → message_whole head.kind (body_in bytes) ≡ found → (said : Opened) → said_by head.from found ≡ said → IsOpenedAs keys bytes said
+  to_body : (head : Head) → IsBytes bytes → head_seen bytes ≡ Some head → open_fault keys bytes ≡ None → (found : Option Message) → message_whole keys.version head.kind (body_in bytes) ≡ found → (said : Opened) → said_by head.from found ≡ said → IsOpenedAs keys bytes said
   to_body head fits seen clear (Some m) whole said is =
       let body : IsBytes (body_in bytes) = IsBytes-drop 17 (take (length bytes - 32) bytes) (IsBytes-take (length bytes - 32) bytes fits) in
-      subst (IsOpenedAs keys bytes) is (is_sealed keys bytes head m fits (is_long clear) seen clear (whole_has head.kind (body_in bytes) m body whole))
+      subst (IsOpenedAs keys bytes) is (is_sealed keys bytes head m fits (is_long clear) seen clear (whole_has keys.version head.kind (body_in bytes) m body whole))
   to_body head fits seen clear None whole said is =
-      let none : IsBody head.kind (body_in bytes) → ⊥ = λ b. let has = has_whole head.kind (body_in bytes) b.0 b.1 in cc in
-      subst (IsOpenedAs keys bytes) is (clear, subst (HasNoBody bytes) (sym seen) none)
+      let none : IsBody keys.version head.kind (body_in bytes) → ⊥ = λ b. let has = has_whole keys.version head.kind (body_in bytes) b.0 b.1 in cc in
+      subst (IsOpenedAs keys bytes) is (clear, subst (HasNoBody keys.version bytes) (sym seen) none)
 
-  to_head : IsBytes bytes → open_fault keys bytes ≡ None → (found : Option Head) → head_seen bytes ≡ found → (said : Opened) → opened_body bytes found ≡ said → IsOpenedAs keys bytes said
+  to_head : IsBytes bytes → open_fault keys bytes ≡ None → (found : Option Head) → head_seen bytes ≡ found → (said : Opened) → opened_body keys.version bytes found ≡ said → IsOpenedAs keys bytes said
   to_head fits clear None seen said is =
       absurd (passed_head (nat_lt (length bytes) 49) (sym (ap (λ (h : Option Head). cond (nat_lt (length bytes) 49) (Some errors.Short) (head_fault keys bytes h)) seen) ∙ clear))
-  to_head fits clear (Some head) seen said is = to_body head fits seen clear (message_whole head.kind (body_in bytes)) refl said is
+  to_head fits clear (Some head) seen said is = to_body head fits seen clear (message_whole keys.version head.kind (body_in bytes)) refl said is
 
-  to_fault : IsBytes bytes → (fault : Option OpenError) → open_fault keys bytes ≡ fault → (said : Opened) → unless_fault fault (opened_body bytes (head_seen bytes)) ≡ said → IsOpenedAs keys bytes said
+  to_fault : IsBytes bytes → (fault : Option OpenError) → open_fault keys bytes ≡ fault → (said : Opened) → unless_fault fault (opened_body keys.version bytes (head_seen bytes)) ≡ said → IsOpenedAs keys bytes said
   to_fault fits (Some error) fault said is = subst (IsOpenedAs keys bytes) is (fails error fault)
   to_fault fits None clear said is = to_head fits clear (head_seen bytes) refl said is
 
   of_sealed : (from : NodeId) (m : Message) → IsSealed keys bytes from m → opened keys bytes ≡ Ok (from, m)
   of_sealed from m sealed =
       let c = is_clear keys bytes from m sealed in
-      let whole : message_whole (kind_of m) (body_in bytes) ≡ Some m = has_whole (kind_of m) (body_in bytes) m c.has in
-      ap (λ (e : Option OpenError). unless_fault e (opened_body bytes (head_seen bytes))) c.none
-      ∙ ap (opened_body bytes) c.seen
+      let whole : message_whole keys.version (kind_of m) (body_in bytes) ≡ Some m = has_whole keys.version (kind_of m) (body_in bytes) m c.has in
+      ap (λ (e : Option OpenError). unless_fault e (opened_body keys.version bytes (head_seen bytes))) c.none
+      ∙ ap (opened_body keys.version bytes) c.seen
       ∙ ap (said_by from) whole
 
   of_failed : IsBytes (body_in bytes) → (e : OpenError) → FailsFirst keys bytes e → opened keys bytes ≡ Err e

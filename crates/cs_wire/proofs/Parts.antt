@@ -1,17 +1,19 @@
 -- The parts of a datagram.
 use Rattle.std.proofs.Common.{◌≡◌, ℕ, zero, suc, ◌+◌, ◌-◌, ◌^◌, ◌<◌, ◌≤◌, Bool, true, false, List, [], ◌∷◌, ◌++◌, length, take, drop, Some, None, refl, sym, ap, ◌∙◌, append_assoc, arith}
-use Rattle.std.specs.Prelude.{◌&&◌, ◌==◌}
+use Rattle.std.specs.Prelude.{◌&&◌, ◌==◌, bytes_eq}
 use Rattle.std.specs.Int.{w16, w32, to_be_bytes}
 use Rattle.std.proofs.lemmas.Bool.{eqb-true, eq-eqb}
 use Rattle.std.proofs.lemmas.List.{length-append, length-drop, take_at, drop_at, take-append-drop}
 use Rattle.cs_base.specs.declared.node_id.NodeId.{NodeId}
 use Rattle.cs_base.specs.Fields.{IsBytes, Found, IsForm}
 use Rattle.cs_base.proofs.Forms.{wide16, wide32, number_form, byte_form, bytes_form, pair_of, mapped_of, some_is}
+use Rattle.cs_base.specs.declared.version.Version.{Version}
+use Rattle.cs_base.specs.declared.version.Version.TheVariants.{One, Two}
 use Rattle.cs_wire_message.specs.declared.message.Message.{Message}
 use Rattle.cs_wire_message.specs.Message.{kind_of, body_of}
 use Rattle.cs_wire.specs.declared.head.Head.{Head}
-use Rattle.cs_wire.specs.declared.head.TheConstants.{MAGIC}
-use Rattle.cs_wire.specs.Datagram.{node_name_encoding, text_with, message_text, text_in, tag_in, body_in}
+use Rattle.cs_wire.specs.declared.head.TheConstants.{MAGIC, MAGIC_OF_BATCHES}
+use Rattle.cs_wire.specs.Datagram.{magic_of, node_name_encoding, text_with, message_text, text_in, tag_in, body_in}
 use Rattle.cs_wire.specs.Heads.{name_of, node_name_at, head_from, head_at, first, head_seen}
 use Rattle.cs_base.specs.NodeId.{same_name}
 use Rattle.cs_wire.specs.Opens.{IsName}
@@ -40,27 +42,42 @@ pub first_some : (found : Found Head) (h : Head) → first found ≡ Some h → 
 first_some (Some x) h e = (x.1, ap (λ (k : Head). Some (k, x.1)) (some_is x.0 h e))
 first_some None h e = absurd cc
 
-pub magic_bytes : IsBytes MAGIC
-magic_bytes zero = omega arith
-magic_bytes (suc zero) = omega arith
-magic_bytes (suc (suc zero)) = omega arith
-magic_bytes (suc (suc (suc zero))) = omega arith
-magic_bytes (suc (suc (suc (suc i)))) = omega arith
+letters : (last : ℕ) → last < 256 → IsBytes (67 ∷ 83 ∷ 80 ∷ last ∷ [])
+letters last fits zero = omega arith
+letters last fits (suc zero) = omega arith
+letters last fits (suc (suc zero)) = omega arith
+letters last fits (suc (suc (suc zero))) = fits
+letters last fits (suc (suc (suc (suc i)))) = omega arith
+
+pub magic_bytes : (version : Version) → IsBytes (magic_of version)
+magic_bytes One = letters 49 (omega arith)
+magic_bytes Two = letters 50 (omega arith)
+
+pub magic_four : (version : Version) → length (magic_of version) ≡ 4
+magic_four One = refl
+magic_four Two = refl
+
+pub magic_same : (version : Version) → bytes_eq (magic_of version) (magic_of version) ≡ true
+magic_same One = refl
+magic_same Two = refl
 
 -- the head of a message's datagram
-abbrev pub head_for : NodeId → NodeId → Message → Head
-head_for from to m = record { magic = MAGIC; kind = kind_of m; from = from; to = to; size = length (body_of m) }
+abbrev pub head_for : Version → NodeId → NodeId → Message → Head
+head_for version from to m =
+    record { magic = magic_of version; kind = kind_of m; from = from; to = to; size = length (body_of version m) }
 
-pub text_parts : (from to : NodeId) (m : Message) → message_text from to m ≡ head_encoding (head_for from to m) ++ body_of m
+pub text_parts : (version : Version) (from to : NodeId) (m : Message) → message_text version from to m ≡ head_encoding (head_for version from to m) ++ body_of version m
 unfolding text_with
-text_parts from to m = refl
+text_parts One from to m = refl
+text_parts Two from to m = refl
 
 head_of_fields : (a : List ℕ) (b : ℕ) (c d : NodeId) (e : ℕ) (a2 : List ℕ) (b2 : ℕ) (c2 d2 : NodeId) (e2 : ℕ) → a ≡ a2 → b ≡ b2 → c ≡ c2 → d ≡ d2 → e ≡ e2
     → ◌≡◌ {A = Head} (record { magic = a; kind = b; from = c; to = d; size = e }) (record { magic = a2; kind = b2; from = c2; to = d2; size = e2 })
 head_of_fields a b c d e a2 b2 c2 d2 e2 p q r s t = rw (p, q, r, s, t) refl
 
-pub same_head : (h : Head) (from to : NodeId) (m : Message) → h.magic ≡ MAGIC → kind_of m ≡ h.kind → h.from ≡ from → h.to ≡ to → h.size ≡ length (body_of m) → h ≡ head_for from to m
-same_head h from to m magic kind is_from is_to size = head_of_fields h.magic h.kind h.from h.to h.size MAGIC (kind_of m) from to (length (body_of m)) magic (sym kind) is_from is_to size
+pub same_head : (version : Version) (h : Head) (from to : NodeId) (m : Message) → h.magic ≡ magic_of version → kind_of m ≡ h.kind → h.from ≡ from → h.to ≡ to → h.size ≡ length (body_of version m) → h ≡ head_for version from to m
+same_head version h from to m magic kind is_from is_to size =
+    head_of_fields h.magic h.kind h.from h.to h.size (magic_of version) (kind_of m) from to (length (body_of version m)) magic (sym kind) is_from is_to size
 
 -- ---- head, body and tag
 

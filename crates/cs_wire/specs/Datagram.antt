@@ -3,30 +3,38 @@ use Rattle.std.specs.Prelude.{ℕ, ◌+◌, ◌-◌, Bool, ◌&&◌, ◌==◌, n
 use Rattle.std.specs.Int.{w16, w32, to_be_bytes}
 use Rattle.cs_base.specs.declared.limits.TheConstants.{LEAST_DATAGRAM, MOST_DATAGRAM}
 use Rattle.cs_base.specs.declared.node_id.NodeId.{NodeId}
+use Rattle.cs_base.specs.declared.version.Version.{Version}
+use Rattle.cs_base.specs.declared.version.Version.TheVariants.{One, Two}
 use Rattle.cs_hash.specs.Hash.{hmac}
 use Rattle.cs_wire_message.specs.declared.message.Message.{Message}
 use Rattle.cs_wire_message.specs.Message.{kind_of, body_of}
-use Rattle.cs_wire.specs.declared.head.TheConstants.{MAGIC}
+use Rattle.cs_wire.specs.declared.head.TheConstants.{MAGIC, MAGIC_OF_BATCHES}
 
 -- a name: shard and index
 abbrev pub node_name_encoding : NodeId → List ℕ
 node_name_encoding name = to_be_bytes w16 name.shard ++ to_be_bytes w16 name.index
 
+-- the first bytes of a datagram
+abbrev pub magic_of : Version → List ℕ
+magic_of One = MAGIC
+magic_of Two = MAGIC_OF_BATCHES
+
 -- what a tag is made of: the magic, the kind, the sender, the receiver, the length of the body, the body
-unfoldable pub text_with : NodeId → NodeId → ℕ → List ℕ → List ℕ
-text_with from to kind body =
-    MAGIC ++ (kind ∷ (node_name_encoding from ++ (node_name_encoding to ++ (to_be_bytes w32 (length body) ++ body))))
+unfoldable pub text_with : Version → NodeId → NodeId → ℕ → List ℕ → List ℕ
+text_with version from to kind body =
+    magic_of version ++ (kind ∷ (node_name_encoding from ++ (node_name_encoding to ++ (to_be_bytes w32 (length body) ++ body))))
 
 -- the text, and its tag under the key from the sender to the receiver
-abbrev pub datagram_with : List ℕ → NodeId → NodeId → ℕ → List ℕ → List ℕ
-datagram_with key from to kind body = text_with from to kind body ++ hmac key (text_with from to kind body)
+abbrev pub datagram_with : Version → List ℕ → NodeId → NodeId → ℕ → List ℕ → List ℕ
+datagram_with version key from to kind body =
+    text_with version from to kind body ++ hmac key (text_with version from to kind body)
 
 -- the text of a message is that of its kind and its body, and so is its datagram
-abbrev pub message_text : NodeId → NodeId → Message → List ℕ
-message_text from to m = text_with from to (kind_of m) (body_of m)
+abbrev pub message_text : Version → NodeId → NodeId → Message → List ℕ
+message_text version from to m = text_with version from to (kind_of m) (body_of version m)
 
-abbrev pub sealed : List ℕ → NodeId → NodeId → Message → List ℕ
-sealed key from to m = datagram_with key from to (kind_of m) (body_of m)
+abbrev pub sealed : Version → List ℕ → NodeId → NodeId → Message → List ℕ
+sealed version key from to m = datagram_with version key from to (kind_of m) (body_of version m)
 
 -- ---- tests of datagrams
 

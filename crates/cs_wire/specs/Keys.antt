@@ -4,6 +4,8 @@ use Rattle.std.specs.List.{list_any}
 use Rattle.cs_base.specs.declared.config.Config.{Config}
 use Rattle.cs_base.specs.declared.node_id.NodeId.{NodeId}
 use Rattle.cs_base.specs.NodeId.{is_named, same_name}
+use Rattle.cs_base.specs.declared.version.Version.{Version}
+use Rattle.cs_base.specs.Version.{version_of}
 use Rattle.cs_hash.specs.Hash.{hmac}
 use Rattle.cs_wire.specs.Datagram.{node_name_encoding}
 use Rattle.cs_wire.specs.declared.keys.Row.{Row}
@@ -38,10 +40,11 @@ peer_twice me earlier place (x ∷ later) =
     if same_name x.0 me || stands x.0 earlier then Some place else peer_twice me (earlier ++ x ∷ []) (place + 1) later
 
 -- what comes of a list, unless memory ran out
-abbrev pub Lists : NodeId → List Listed → Result Keys KeysError → Type 0
-Lists me list (Ok keys) = (peer_twice me [] 0 list ≡ None) × (keys ≡ record { me = me; rows = map row_listed list })
-Lists me list (Err (errors.Twice place)) = peer_twice me [] 0 list ≡ Some place
-Lists me list (Err errors.Memory) = Unit {0}
+abbrev pub Lists : NodeId → List Listed → Version → Result Keys KeysError → Type 0
+Lists me list version (Ok keys) =
+    (peer_twice me [] 0 list ≡ None) × (keys ≡ record { me = me; rows = map row_listed list; version = version })
+Lists me list version (Err (errors.Twice place)) = peer_twice me [] 0 list ≡ Some place
+Lists me list version (Err errors.Memory) = Unit {0}
 
 -- ---- keys of a master key
 
@@ -64,4 +67,5 @@ row_expected master me is_one peer =
 -- keys for all nodes and clients of a configuration, but for me
 pub record IsOfMaster (config : Config) (master : List ℕ) (holder : NodeId) (keys : Keys) : Type 0 where
   pub me : keys.me ≡ holder
+  pub version : keys.version ≡ version_of config.version
   pub rows : (peer : NodeId) → row_of peer keys ≡ row_expected master holder (is_named config peer) peer

@@ -9,7 +9,7 @@ use Rattle.cs_wire.specs.Opened.{Opened}
 
 -- the first test that fails is this one; the last test is that the body is one of its kind
 abbrev pub FailsFirst : Keys → List ℕ → OpenError → Type 0
-FailsFirst keys bytes errors.Body = (open_fault keys bytes ≡ None) × HasNoBody bytes (head_seen bytes)
+FailsFirst keys bytes errors.Body = (open_fault keys bytes ≡ None) × HasNoBody keys.version bytes (head_seen bytes)
 FailsFirst keys bytes error = open_fault keys bytes ≡ Some error
 
 -- a sender and its message where the bytes are that datagram, or else the first test that fails

@@ -2,17 +2,17 @@
 use Rattle.std.specs.Prelude.{◌≡◌, ℕ, ◌<◌, ◌^◌, Bool, nat_lt, bytes_eq, List, ◌++◌, length, Option, Some, None, Result, Ok, Err, if◌then◌else◌}
 use Rattle.cs_base.specs.declared.limits.TheConstants.{LEAST_DATAGRAM}
 use Rattle.cs_base.specs.declared.node_id.NodeId.{NodeId}
+use Rattle.cs_base.specs.declared.version.Version.{Version}
 use Rattle.cs_wire_message.specs.declared.message.Message.{Message}
 use Rattle.cs_wire_message.specs.Message.{is_kind, MessageFits}
 use Rattle.cs_wire_message.specs.Body.{Has, IsBody}
 use Rattle.cs_wire.specs.declared.head.Head.{Head}
-use Rattle.cs_wire.specs.declared.head.TheConstants.{MAGIC}
 use Rattle.cs_wire.specs.declared.keys.Row.{Row}
 use Rattle.cs_wire.specs.declared.keys.Keys.{Keys}
 use Rattle.cs_wire.specs.declared.opening.OpenError.{OpenError}
 use Rattle.cs_wire.specs.declared.opening.OpenError.TheVariants as errors
 use Rattle.cs_wire.specs.declared.view.MessageView.{MessageView}
-use Rattle.cs_wire.specs.Datagram.{sealed, is_sized, has_tag, body_in}
+use Rattle.cs_wire.specs.Datagram.{magic_of, sealed, is_sized, has_tag, body_in}
 use Rattle.cs_wire.specs.Heads.{head_seen}
 use Rattle.cs_wire.specs.Keys.{row_of}
 use Rattle.cs_base.specs.NodeId.{same_name}
@@ -23,7 +23,7 @@ use Rattle.cs_base.specs.NodeId.{same_name}
 pub record Seals (keys : Keys) (to : NodeId) (m : Message) (old new : List ℕ) : Type 0 where
   pub row : Row
   pub held : row_of to keys ≡ Some row
-  pub is : new ≡ old ++ sealed row.to keys.me to m
+  pub is : new ≡ old ++ sealed keys.version row.to keys.me to m
 
 -- ---- opening
 
@@ -37,8 +37,8 @@ pub record IsSealed (keys : Keys) (bytes : List ℕ) (from : NodeId) (m : Messag
   pub mine : IsName keys.me
   pub row : Row
   pub held : row_of from keys ≡ Some row
-  pub fits : MessageFits m
-  pub is : bytes ≡ sealed row.from from keys.me m
+  pub fits : MessageFits keys.version m
+  pub is : bytes ≡ sealed keys.version row.from from keys.me m
 
 -- the first test that fails: this one, or one of the later ones
 abbrev pub unless : Bool → OpenError → Option OpenError → Option OpenError
@@ -53,7 +53,7 @@ keyed_fault head bytes (Some row) =
 abbrev pub head_fault : Keys → List ℕ → Option Head → Option OpenError
 head_fault keys bytes None = Some errors.Short
 head_fault keys bytes (Some head) =
-    unless (bytes_eq head.magic MAGIC) errors.Magic
+    unless (bytes_eq head.magic (magic_of keys.version)) errors.Magic
     (unless (is_kind head.kind) errors.Kind
     (unless (same_name head.to keys.me) errors.NotMine
     (keyed_fault head bytes (row_of head.from keys))))
@@ -64,18 +64,19 @@ open_fault keys bytes =
     if nat_lt (length bytes) LEAST_DATAGRAM then Some errors.Short else head_fault keys bytes (head_seen bytes)
 
 -- the body is none of its kind
-abbrev pub HasNoBody : List ℕ → Option Head → Type 0
-HasNoBody bytes None = Unit {0}
-HasNoBody bytes (Some head) = IsBody head.kind (body_in bytes) → ⊥
+abbrev pub HasNoBody : Version → List ℕ → Option Head → Type 0
+HasNoBody version bytes None = Unit {0}
+HasNoBody version bytes (Some head) = IsBody version head.kind (body_in bytes) → ⊥
 
--- the view is of this message
+-- the view is of this message, in its version
 abbrev pub ShowsMessage : MessageView → Message → Type 0
-ShowsMessage view m = Has view.kind view.body.now m
+ShowsMessage view m = Has view.version view.kind view.body.now m
 
 -- what a call answers: a sender and its message where the bytes are that datagram, or else the first test that fails
 abbrev pub Opens : Keys → List ℕ → Result (NodeId × MessageView) OpenError → Type 0
-Opens keys bytes (Ok found) = (m : Message) × IsSealed keys bytes found.0 m × ShowsMessage found.1 m
-Opens keys bytes (Err errors.Body) = (open_fault keys bytes ≡ None) × HasNoBody bytes (head_seen bytes)
+Opens keys bytes (Ok found) =
+    (m : Message) × IsSealed keys bytes found.0 m × ShowsMessage found.1 m × (found.1.version ≡ keys.version)
+Opens keys bytes (Err errors.Body) = (open_fault keys bytes ≡ None) × HasNoBody keys.version bytes (head_seen bytes)
 Opens keys bytes (Err errors.Short) = open_fault keys bytes ≡ Some errors.Short
 Opens keys bytes (Err errors.Magic) = open_fault keys bytes ≡ Some errors.Magic
 Opens keys bytes (Err errors.Kind) = open_fault keys bytes ≡ Some errors.Kind

@@ -10,4 +10,4 @@ use Rattle.cs_wire.specs.Datagram.{datagram_with}
 pub record SealsWith (keys : Keys) (to : NodeId) (kind : ℕ) (body old new : List ℕ) : Type 0 where
   pub row : Row
   pub held : row_of to keys ≡ Some row
-  pub is : new ≡ old ++ datagram_with row.to keys.me to kind body
+  pub is : new ≡ old ++ datagram_with keys.version row.to keys.me to kind body

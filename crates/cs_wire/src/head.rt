@@ -4,14 +4,27 @@ ghost use Rattle.std.specs.Int.{w32};
 ghost use Rattle.cs_base.specs.Fields.{bytes_at};
 ghost use Rattle.cs_tx_value.specs.Reading.{Begins};
 ghost use Rattle.cs_wire_message.specs.Reading.{Gets};
-ghost use Rattle.cs_wire.specs.Datagram.{node_name_encoding};
+ghost use Rattle.cs_wire.specs.Datagram.{magic_of as magic_so, node_name_encoding};
 ghost use Rattle.cs_wire.specs.Heads.{node_name_at, head_at, head_seen};
 
-use cs_base::{Cursor, Memory, NodeId, Writer};
+use cs_base::{Cursor, Memory, NodeId, Version, Writer};
 use cs_tx_value::FormError;
 
 /// The first bytes of a datagram.
 pub const MAGIC: [u8; 4] = *b"CSP1";
+
+/// The same where entries are batches.
+pub const MAGIC_OF_BATCHES: [u8; 4] = *b"CSP2";
+
+/// The first bytes of a datagram of a version.
+pub fn magic_of(version: Version) -> [u8; 4]
+    ensures { result ≡ magic_so version }
+{
+    match version {
+        Version::One => MAGIC,
+        Version::Two => MAGIC_OF_BATCHES,
+    }
+}
 
 /// What stands before the body of a datagram.
 #[derive(Clone, Copy, Debug, PartialEq, Eq)]

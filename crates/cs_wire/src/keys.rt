@@ -2,9 +2,10 @@
 ghost use Rattle.std.specs.Prelude.{◌≡◌, IfOk, option_copied};
 ghost use Rattle.cs_wire.specs.Keys.{row_of, row_of_peer, row_listed, stands, Lists, IsOfMaster};
 ghost use Rattle.cs_base.specs.NodeId.{same_name as alike};
+ghost use Rattle.cs_base.specs.Version.{IsVersion, version_of};
 
 use crate::names::rows_of_master;
-use cs_base::{Config, Memory, NodeId, Sequence};
+use cs_base::{Config, Memory, NodeId, Sequence, Version};
 use cs_hash::TagKey;
 use cs_tx_value::Digest;
 use std::alloc::{AllocFailed, Global};
@@ -19,11 +20,12 @@ pub struct Row {
     pub from: TagKey,
 }
 
-/// The keys of a node or a client.
+/// The keys of a node or a client, and the version in which it speaks.
 #[derive(Drop)]
 pub struct Keys {
     pub(crate) me: NodeId,
     pub(crate) rows: Sequence<Row>,
+    pub(crate) version: Version,
 }
 
 /// Why a list is no list of keys.
@@ -95,16 +97,20 @@ impl Keys {
         ensures { IfOk result (λ keys. IsOfMaster config.now master.now me keys) }
     {
         let rows = rows_of_master(alloc, config, master, me)?;
-        Ok(Keys { me, rows })
+        let version = Version::of(config.version);
+        Ok(Keys { me, rows, version })
     }
 
-    /// The keys of a list, of a peer with the key to it and the key from it each.
+    /// The keys of a list, of a peer with the key to it and the key from it each, in the version of
+    /// this number.
     pub fn from_list(
         alloc: Global,
         me: NodeId,
         list: &[(NodeId, Digest, Digest)],
+        version: u8,
     ) -> Result<Keys, KeysError>
-        ensures { Lists me list.now result }
+        requires { IsVersion version }
+        ensures { Lists me list.now (version_of version) result }
     {
         let mut rows = Sequence::new(alloc);
         for i in 0..list.len() {
@@ -114,7 +120,15 @@ impl Keys {
             }
             rows.push(Row::new(peer, &to, &from))?;
         }
-        Ok(Keys { me, rows })
+        let version = Version::of(version);
+        Ok(Keys { me, rows, version })
+    }
+
+    /// The version in which their holder speaks.
+    pub fn version(&self) -> Version
+        ensures { result ≡ self.now.version }
+    {
+        self.version
     }
 
     /// The name that the keys were made for.

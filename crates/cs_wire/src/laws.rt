@@ -31,7 +31,7 @@ pub fn names_of_one_master_understand_each_other()
         (m : Message) (bytes : List ℕ)
         → IsOfMaster config master i a → IsOfMaster config master j b
         → IsName i → IsName j → is_named config i ≡ true → same_name i j ≡ false
-        → MessageFits m → Seals a j m [] bytes → IsSealed b bytes i m }
+        → MessageFits a.version m → Seals a j m [] bytes → IsSealed b bytes i m }
 {}
 
 /// What bytes open as, told of whole datagrams: a sender and its message exactly where they are the

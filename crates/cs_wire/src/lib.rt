@@ -13,7 +13,7 @@ mod sealing;
 mod view;
 
 pub use cs_wire_message::Message;
-pub use head::MAGIC;
+pub use head::{MAGIC, MAGIC_OF_BATCHES};
 pub use input::{Input, Out};
 pub use keys::{Keys, KeysError};
 pub use laws::{

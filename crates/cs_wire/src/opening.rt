@@ -5,7 +5,7 @@ ghost use Rattle.cs_wire.specs.Datagram.{has_tag as tagged_so, is_sized as sized
 ghost use Rattle.cs_wire.specs.Opens.{open_fault, head_fault, Checks, Opens};
 ghost use Rattle.cs_wire.specs.Heads.{head_seen};
 
-use crate::head::{Head, MAGIC, head_of};
+use crate::head::{Head, head_of, magic_of};
 use crate::keys::{Keys, same_name};
 use crate::view::MessageView;
 use cs_base::{LEAST_DATAGRAM, MOST_DATAGRAM, NodeId};
@@ -24,7 +24,7 @@ const TAG: usize = 32;
 pub enum OpenError {
     /// There are fewer than 49 bytes.
     Short,
-    /// The first four bytes aren't `CSP1`.
+    /// The first four bytes aren't `CSP1`, or in version 2 `CSP2`.
     Magic,
     /// There is no such kind.
     Kind,
@@ -68,7 +68,7 @@ fn tested_head(keys: &Keys, bytes: &[u8]) -> Result<Head, OpenError>
     let Some(head) = head_of(bytes) else {
         return Err(OpenError::Short);
     };
-    if head.magic.as_slice() != MAGIC.as_slice() {
+    if head.magic.as_slice() != magic_of(keys.version).as_slice() {
         return Err(OpenError::Magic);
     }
     if !is_kind(head.kind) {
@@ -105,9 +105,13 @@ pub fn open<'a>(keys: &Keys, bytes: &'a [u8]) -> Result<(NodeId, MessageView<'a>
 {
     let head = tested_head(keys, bytes)?;
     let body = body_of(bytes);
-    if !has_form(head.kind, body) {
+    if !has_form(head.kind, body, keys.version) {
         return Err(OpenError::Body);
     }
-    let kind = head.kind;
-    Ok((head.from, MessageView { kind, body }))
+    let view = MessageView {
+        version: keys.version,
+        kind: head.kind,
+        body,
+    };
+    Ok((head.from, view))
 }

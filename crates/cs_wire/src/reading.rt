@@ -24,7 +24,7 @@ pub fn read(
     ensures said { IfOk result (λ said. said ≡ opened keys.now bytes.now) }
     ensures refused { (error : AnyError) → opened keys.now bytes.now ≡ Err error
         → result ≡ Ok (Err error) }
-    ensures fits { IfOk result (λ said. IfOk said (λ s. MessageFits s.1)) }
+    ensures fits { IfOk result (λ said. IfOk said (λ s. MessageFits keys.now.version s.1)) }
 {
     match open(keys, bytes) {
         Ok((from, view)) => {

@@ -48,7 +48,7 @@ pub fn seal(
     message: &Message,
     out: &mut Vec<u8>,
 ) -> Result<(), SealError>
-    requires { MessageFits message.now }
+    requires { MessageFits keys.now.version message.now }
     ensures ok { OnOk result (Seals keys.now to message.now out.old.items out.new.items) }
     ensures no_key { IsErrOf result NoKey ↔ (row_of to keys.now ≡ None) }
     ensures err { OnErr result (out.new.items ≡ out.old.items) }
@@ -56,6 +56,6 @@ pub fn seal(
     if keys.row(to).is_none() {
         return Err(SealError::NoKey);
     }
-    let body = body_of(alloc, message)?;
+    let body = body_of(alloc, message, keys.version)?;
     seal_with(alloc, keys, to, message.kind(), &body, out)
 }

@@ -4,6 +4,8 @@ use Rattle.std.specs.List.{AllByRecursion}
 use Rattle.std.specs.Int.{w16, w64, to_be_bytes}
 use Rattle.std.proofs.lemmas.List.{length-append}
 use Rattle.cs_base.specs.declared.limits.TheConstants.{MOST_BODY}
+use Rattle.cs_base.specs.declared.version.Version.{Version}
+use Rattle.cs_base.specs.declared.version.Version.TheVariants.{One, Two}
 use Rattle.cs_base.specs.declared.key.Key.{Key}
 use Rattle.cs_base.specs.declared.key.Key.TheVariants as key
 use Rattle.cs_base.specs.Fields.{each, counted}
@@ -18,12 +20,14 @@ use Rattle.cs_tx_types.specs.declared.state.State.TheVariants as state
 use Rattle.cs_tx_types.specs.declared.leaf.Leaf.{Leaf}
 use Rattle.cs_tx_types.specs.declared.checkpoint.Checkpoint.{Checkpoint}
 use Rattle.cs_tx_types.specs.declared.proof.Proof.{Proof}
-use Rattle.cs_tx_types.specs.Session.{session_encoding, vote_encoding, entry_encoding}
-use Rattle.cs_tx_types.specs.laws.Session.{session_short, entry_short}
+use Rattle.cs_tx_types.specs.Session.{session_encoding, vote_encoding, action_encoding}
+use Rattle.cs_tx_types.specs.Entry.{entry_encoding, entry_limit}
+use Rattle.cs_tx_types.specs.laws.Session.{session_short, action_short}
+use Rattle.cs_tx_types.specs.laws.Entry.{entry_short}
 use Rattle.cs_tx_types.specs.State.{readers_encoding, state_encoding, StateFits}
 use Rattle.cs_tx_types.specs.Sized.{sized}
 use Rattle.cs_tx_types.specs.laws.Sized.{length_sized}
-use Rattle.cs_tx_types.specs.Log.{effect_encoding, leaf_encoding, LeafFits, checkpoint_encoding, CheckpointFits, proof_encoding, ProofFits}
+use Rattle.cs_tx_types.specs.Log.{effect_encoding, place_encoding, LeavesFit, leaves_encoding, leaf_encoding, LeafFits, checkpoint_encoding, CheckpointFits, last_place, most_path, index_encoding, proof_encoding, ProofFits}
 use Rattle.cs_wire_message.specs.declared.change.Change.{Change}
 use Rattle.cs_wire_message.specs.declared.message.Message.{Message}
 use Rattle.cs_wire_message.specs.declared.message.Message.TheVariants as message
@@ -66,39 +70,71 @@ effect_one effect.Aborted = refl
 effect_one effect.Skipped = refl
 effect_one effect.Void = refl
 
-leaf_short : (l : Leaf) → LeafFits l → length (leaf_encoding l) ≤ 8366
-leaf_short l fits = omega (
+-- what version 1 leaves out has few bytes in version 2
+limit_small : (version : Version) → entry_limit version ≤ 16384
+limit_small One = omega arith
+limit_small Two = omega arith
+
+place_few : (version : Version) (place : ℕ) → length (place_encoding version place) ≤ 1
+place_few One place = omega arith
+place_few Two place = omega arith
+
+leaves_few : (version : Version) (leaves : ℕ) → length (leaves_encoding version leaves) ≤ 2
+leaves_few One leaves = omega arith
+leaves_few Two leaves = omega arith
+
+index_few : (version : Version) (place : ℕ) → length (index_encoding version place) ≤ 2
+index_few One place = omega arith
+index_few Two place = omega arith
+
+path_few : (version : Version) → most_path version ≤ 9
+path_few One = omega arith
+path_few Two = omega arith
+
+leaf_short : (version : Version) (l : Leaf) → LeafFits version l → length (leaf_encoding version l) ≤ 8367
+leaf_short version l fits = omega (
   arith,
-  entry_short l.entry fits.entry,
+  action_short l.action fits.action,
   effect_one l.result,
-  length_sized entry_encoding l.entry,
-  length-append (to_be_bytes w64 l.slot) (sized entry_encoding l.entry ++ effect_encoding l.result),
-  length-append (sized entry_encoding l.entry) (effect_encoding l.result),
+  place_few version l.place,
+  length_sized action_encoding l.action,
+  length-append (to_be_bytes w64 l.slot) (place_encoding version l.place ++ (sized action_encoding l.action ++ effect_encoding l.result)),
+  length-append (place_encoding version l.place) (sized action_encoding l.action ++ effect_encoding l.result),
+  length-append (sized action_encoding l.action) (effect_encoding l.result),
 )
 
-checkpoint_length : (c : Checkpoint) → CheckpointFits c → length (checkpoint_encoding c) ≡ 106
-checkpoint_length c fits = omega (
-  arith,
-  fits.previous.0,
-  fits.leaf_root.0,
-  fits.table_root.0,
-  length-append (to_be_bytes w16 c.shard) (to_be_bytes w64 c.number ++ (c.previous ++ (c.leaf_root ++ c.table_root))),
-  length-append (to_be_bytes w64 c.number) (c.previous ++ (c.leaf_root ++ c.table_root)),
-  length-append c.previous (c.leaf_root ++ c.table_root),
-  length-append c.leaf_root c.table_root,
-)
+checkpoint_short : (version : Version) (c : Checkpoint) → CheckpointFits version c → length (checkpoint_encoding version c) ≤ 108
+checkpoint_short version c fits =
+    let end = leaves_encoding version c.leaves in
+    omega (
+      arith,
+      fits.previous.0,
+      fits.leaf_root.0,
+      fits.table_root.0,
+      leaves_few version c.leaves,
+      length-append (to_be_bytes w16 c.shard) (to_be_bytes w64 c.number ++ (c.previous ++ (c.leaf_root ++ (c.table_root ++ end)))),
+      length-append (to_be_bytes w64 c.number) (c.previous ++ (c.leaf_root ++ (c.table_root ++ end))),
+      length-append c.previous (c.leaf_root ++ (c.table_root ++ end)),
+      length-append c.leaf_root (c.table_root ++ end),
+      length-append c.table_root end,
+    )
 
-proof_short : (p : Proof) → ProofFits p → length (proof_encoding p) ≤ 9000
-proof_short p fits = omega (
-  arith,
-  fits.path.0,
-  checkpoint_length p.checkpoint fits.checkpoint,
-  leaf_short p.leaf fits.leaf,
-  length_sized leaf_encoding p.leaf,
-  digests_length p.path fits.path.1,
-  length-append (checkpoint_encoding p.checkpoint) (p.place ∷ (sized leaf_encoding p.leaf ++ counted (λ digest. digest) p.path)),
-  length-append (sized leaf_encoding p.leaf) (counted (λ digest. digest) p.path),
-)
+proof_short : (version : Version) (p : Proof) → ProofFits version p → length (proof_encoding version p) ≤ 9000
+proof_short version p fits =
+    let path = counted (λ digest. digest) p.path in
+    omega (
+      arith,
+      fits.path.0,
+      path_few version,
+      index_few version p.place,
+      checkpoint_short version p.checkpoint fits.checkpoint,
+      leaf_short version p.leaf fits.leaf,
+      length_sized (leaf_encoding version) p.leaf,
+      digests_length p.path fits.path.1,
+      length-append (checkpoint_encoding version p.checkpoint) (index_encoding version p.place ++ (sized (leaf_encoding version) p.leaf ++ path)),
+      length-append (index_encoding version p.place) (sized (leaf_encoding version) p.leaf ++ path),
+      length-append (sized (leaf_encoding version) p.leaf) path,
+    )
 
 echoed_length : (view : ℕ) (last : Option (List ℕ)) (echoed : List (List ℕ × ℕ)) → Rise view last echoed → length (each echo_encoding echoed) ≡ 34 * length echoed
 echoed_length view last [] rise = refl
@@ -127,19 +163,19 @@ step_length : (slot view : ℕ) (rest : List ℕ) → length (to_be_bytes w64 sl
 step_length slot view rest = omega (arith, length-append (to_be_bytes w64 slot) (to_be_bytes w16 view ++ rest), length-append (to_be_bytes w16 view) rest)
 
 -- no body of a message that fits is longer than a datagram holds
-pub body_short : (m : Message) → MessageFits m → length (body_of m) ≤ MOST_BODY
-body_short (message.Submit x) fits = omega (arith, session_short x fits)
-body_short (message.Propose slot view entry) fits = omega (arith, entry_short entry fits.1.1, step_length slot view (entry_encoding entry))
-body_short (message.Echo slot view digest) fits = omega (arith, fits.1.1.0, step_length slot view digest)
-body_short (message.Confirm slot view digest) fits = omega (arith, fits.1.1.0, step_length slot view digest)
-body_short (message.Change slot view change) fits = omega (arith, change_short view change fits.1.1.1, step_length slot view (change_encoding change))
-body_short (message.Voted vote asks x) fits = omega (arith, session_short x fits, vote_one vote, length-append (vote_encoding vote) (flag_encoding asks ++ session_encoding x), length-append (flag_encoding asks) (session_encoding x))
-body_short (message.Decided digest accepted) fits = omega (arith, fits.0, length-append digest (flag_encoding accepted))
-body_short (message.Want slot) fits = omega arith
-body_short (message.Done slot entry) fits = omega (arith, entry_short entry fits.1, length-append (to_be_bytes w64 slot) (entry_encoding entry))
-body_short (message.Ask None) fits = omega arith
-body_short (message.Ask (Some k)) fits = omega (arith, key_short k fits)
-body_short (message.Told k s) fits = omega (arith, key_short k fits.0, state_short s fits.1, length-append (key_encoding k) (state_encoding s))
-body_short (message.Head checkpoint) fits = omega (arith, checkpoint_length checkpoint fits)
-body_short (message.AskProof slot) fits = omega arith
-body_short (message.Proof proof) fits = omega (arith, proof_short proof fits)
+pub body_short : (version : Version) (m : Message) → MessageFits version m → length (body_of version m) ≤ MOST_BODY
+body_short version (message.Submit x) fits = omega (arith, session_short x fits)
+body_short version (message.Propose slot view entry) fits = omega (arith, entry_short version entry fits.1.1, limit_small version, step_length slot view (entry_encoding version entry))
+body_short version (message.Echo slot view digest) fits = omega (arith, fits.1.1.0, step_length slot view digest)
+body_short version (message.Confirm slot view digest) fits = omega (arith, fits.1.1.0, step_length slot view digest)
+body_short version (message.Change slot view change) fits = omega (arith, change_short view change fits.1.1.1, step_length slot view (change_encoding change))
+body_short version (message.Voted vote asks x) fits = omega (arith, session_short x fits, vote_one vote, length-append (vote_encoding vote) (flag_encoding asks ++ session_encoding x), length-append (flag_encoding asks) (session_encoding x))
+body_short version (message.Decided digest accepted) fits = omega (arith, fits.0, length-append digest (flag_encoding accepted))
+body_short version (message.Want slot) fits = omega arith
+body_short version (message.Done slot entry) fits = omega (arith, entry_short version entry fits.1, limit_small version, length-append (to_be_bytes w64 slot) (entry_encoding version entry))
+body_short version (message.Ask None) fits = omega arith
+body_short version (message.Ask (Some k)) fits = omega (arith, key_short k fits)
+body_short version (message.Told k s) fits = omega (arith, key_short k fits.0, state_short s fits.1, length-append (key_encoding k) (state_encoding s))
+body_short version (message.Head checkpoint) fits = omega (arith, checkpoint_short version checkpoint fits)
+body_short version (message.AskProof slot place) fits = omega (arith, place_few version place, length-append (to_be_bytes w64 slot) (place_encoding version place))
+body_short version (message.Proof proof) fits = omega (arith, proof_short version proof fits)

@@ -6,6 +6,8 @@ use Rattle.cs_base.specs.declared.key.Key.{Key}
 use Rattle.cs_base.specs.declared.key.Key.TheVariants as key
 use Rattle.cs_base.specs.declared.limits.TheConstants.{MOST_READERS}
 use Rattle.cs_base.specs.Fields.{IsBytes, each, counted}
+use Rattle.cs_base.specs.declared.version.Version.{Version}
+use Rattle.cs_base.specs.declared.version.Version.TheVariants.{One, Two}
 use Rattle.cs_tx_value.specs.declared.object.Object.{Object}
 use Rattle.cs_tx_value.specs.declared.value.Value.{Value, out-Value, roll-Value}
 use Rattle.cs_tx_value.specs.declared.value.Value.TheVariants.{rolls-Int, rolls-Bool, rolls-Bytes, rolls-List}
@@ -21,7 +23,8 @@ use Rattle.cs_tx_types.specs.declared.session.Session.{Session}
 use Rattle.cs_tx_types.specs.declared.vote.Vote.{Vote}
 use Rattle.cs_tx_types.specs.declared.vote.Vote.TheVariants as vote
 use Rattle.cs_tx_types.specs.declared.entry.Entry.{Entry}
-use Rattle.cs_tx_types.specs.declared.entry.Entry.TheVariants.{Prepare, Decide}
+use Rattle.cs_tx_types.specs.declared.action.Action.{Action}
+use Rattle.cs_tx_types.specs.declared.action.Action.TheVariants.{Prepare, Decide}
 use Rattle.cs_tx_types.specs.declared.effect.Effect.{Effect}
 use Rattle.cs_tx_types.specs.declared.effect.Effect.TheVariants as effect
 use Rattle.cs_tx_types.specs.declared.leaf.Leaf.{Leaf}
@@ -30,14 +33,15 @@ use Rattle.cs_tx_types.specs.declared.proof.Proof.{Proof}
 use Rattle.cs_tx_types.specs.declared.state.State.{State}
 use Rattle.cs_tx_types.specs.declared.state.State.TheVariants as state
 use Rattle.cs_tx_types.specs.Transaction.{Keyed, keyed_encoding, KeyedFits, trace_front, trace_back, trace_encoding, TraceFits, tx_encoding, TxFits}
-use Rattle.cs_tx_types.specs.Session.{dummy_encoding, session_encoding, SessionFits, vote_encoding, entry_encoding, EntryFits}
+use Rattle.cs_tx_types.specs.Session.{dummy_encoding, session_encoding, SessionFits, vote_encoding, action_encoding, ActionFits}
 use Rattle.cs_tx_types.specs.State.{readers_encoding, state_encoding, StateFits}
 use Rattle.cs_tx_types.specs.Sized.{sized}
-use Rattle.cs_tx_types.specs.Log.{effect_encoding, leaf_encoding, LeafFits, checkpoint_encoding, CheckpointFits, proof_encoding, ProofFits}
+use Rattle.cs_tx_types.specs.Entry.{encoding_alone, entry_encoding, EntryFits}
+use Rattle.cs_tx_types.specs.Log.{effect_encoding, PlaceFits, place_encoding, leaves_encoding, leaf_encoding, LeafFits, checkpoint_encoding, CheckpointFits, last_place, most_path, index_encoding, proof_encoding, ProofFits}
 use Rattle.cs_wire_message.specs.declared.change.Change.{Change}
 use Rattle.cs_wire_message.specs.declared.message.Message.{Message}
 use Rattle.cs_wire_message.specs.declared.message.Message.TheVariants as message
-use Rattle.cs_wire_message.specs.Message.{prepared_encoding, PreparedFits, echo_encoding, Rise, change_encoding, ChangeFits, flag_encoding, step_encoding, asked_encoding, AskedKeyFits, body_of, MessageFits}
+use Rattle.cs_wire_message.specs.Message.{prepared_encoding, PreparedFits, echo_encoding, Rise, change_encoding, ChangeFits, flag_encoding, step_encoding, asked_encoding, AskedKeyFits, AskedPlaceFits, body_of, MessageFits}
 use Rattle.cs_wire_message.proofs.Bytes as plain
 
 -- ---- numbers and lists
@@ -167,9 +171,17 @@ bytes-vote : (v : Vote) → AreSmall (vote_encoding v)
 bytes-vote vote.Abort = byte 0 (omega arith)
 bytes-vote vote.Commit = byte 1 (omega arith)
 
-bytes-entry : (e : Entry) → EntryFits e → AreSmall (entry_encoding e)
-bytes-entry (Prepare x) fits = cons 0 _ (omega arith) (bytes-session x fits)
-bytes-entry (Decide vote x) fits = cons 1 _ (omega arith) (join (vote_encoding vote) (session_encoding x) (bytes-vote vote) (bytes-session x fits))
+bytes-action : (a : Action) → ActionFits a → AreSmall (action_encoding a)
+bytes-action (Prepare x) fits = cons 0 _ (omega arith) (bytes-session x fits)
+bytes-action (Decide vote x) fits = cons 1 _ (omega arith) (join (vote_encoding vote) (session_encoding x) (bytes-vote vote) (bytes-session x fits))
+
+bytes-alone : (actions : List Action) → AllByRecursion ActionFits actions → AreSmall (encoding_alone actions)
+bytes-alone [] fits = none
+bytes-alone (action ∷ more) fits = bytes-action action fits.0
+
+bytes-entry : (version : Version) (e : Entry) → EntryFits version e → AreSmall (entry_encoding version e)
+bytes-entry One e fits = bytes-alone e.actions fits.1
+bytes-entry Two e fits = cons 2 _ (omega arith) (bytes-counted action_encoding ActionFits bytes-action 32 (omega arith) e.actions fits.actions)
 
 -- ---- what is kept and proved of a log
 
@@ -185,26 +197,41 @@ bytes-sized : {X : Type 0} (write : X → List ℕ) (x : X) → AreSmall (write 
 unfolding sized
 bytes-sized write x fits = join (to_be_bytes w32 (length (write x))) (write x) (bytes-32 (length (write x))) fits
 
-bytes-leaf : (l : Leaf) → LeafFits l → AreSmall (leaf_encoding l)
-bytes-leaf l fits =
-    join (to_be_bytes w64 l.slot) _ (bytes-64 l.slot)
-    (join (sized entry_encoding l.entry) (effect_encoding l.result) (bytes-sized entry_encoding l.entry (bytes-entry l.entry fits.entry)) (bytes-effect l.result))
+bytes-place : (version : Version) (place : ℕ) → PlaceFits version place → AreSmall (place_encoding version place)
+bytes-place One place fits = none
+bytes-place Two place fits = byte place fits
 
-bytes-checkpoint : (c : Checkpoint) → CheckpointFits c → AreSmall (checkpoint_encoding c)
-bytes-checkpoint c fits =
+bytes-leaf : (version : Version) (l : Leaf) → LeafFits version l → AreSmall (leaf_encoding version l)
+bytes-leaf version l fits =
+    join (to_be_bytes w64 l.slot) _ (bytes-64 l.slot)
+    (join (place_encoding version l.place) _ (bytes-place version l.place fits.place)
+    (join (sized action_encoding l.action) (effect_encoding l.result) (bytes-sized action_encoding l.action (bytes-action l.action fits.action)) (bytes-effect l.result)))
+
+bytes-leaves : (version : Version) (leaves : ℕ) → AreSmall (leaves_encoding version leaves)
+bytes-leaves One leaves = none
+bytes-leaves Two leaves = bytes-16 leaves
+
+bytes-checkpoint : (version : Version) (c : Checkpoint) → CheckpointFits version c → AreSmall (checkpoint_encoding version c)
+bytes-checkpoint version c fits =
     join (to_be_bytes w16 c.shard) _ (bytes-16 c.shard)
     (join (to_be_bytes w64 c.number) _ (bytes-64 c.number)
-    (join c.previous _ (small c.previous fits.previous.1) (join c.leaf_root c.table_root (small c.leaf_root fits.leaf_root.1) (small c.table_root fits.table_root.1))))
+    (join c.previous _ (small c.previous fits.previous.1) (join c.leaf_root _ (small c.leaf_root fits.leaf_root.1)
+    (join c.table_root (leaves_encoding version c.leaves) (small c.table_root fits.table_root.1) (bytes-leaves version c.leaves)))))
 
-bytes-proof : (p : Proof) → ProofFits p → AreSmall (proof_encoding p)
-bytes-proof p fits =
-    join (checkpoint_encoding p.checkpoint) _ (bytes-checkpoint p.checkpoint fits.checkpoint)
-    (cons p.place _ (low p.place fits.place)
-    (join (sized leaf_encoding p.leaf) _ (bytes-sized leaf_encoding p.leaf (bytes-leaf p.leaf fits.leaf))
-    (bytes-counted (λ digest. digest) DigestFits (λ digest f. small digest f.1) 4 (omega arith) p.path fits.path)))
-  where
-    low : (n : ℕ) → n ≤ 15 → n < 256
-    low n a = omega arith
+bytes-index : (version : Version) (place : ℕ) → place ≤ last_place version → AreSmall (index_encoding version place)
+bytes-index One place fits = byte place (omega (arith, fits))
+bytes-index Two place fits = bytes-16 place
+
+path-bytes : (version : Version) → most_path version < 256
+path-bytes One = omega arith
+path-bytes Two = omega arith
+
+bytes-proof : (version : Version) (p : Proof) → ProofFits version p → AreSmall (proof_encoding version p)
+bytes-proof version p fits =
+    join (checkpoint_encoding version p.checkpoint) _ (bytes-checkpoint version p.checkpoint fits.checkpoint)
+    (join (index_encoding version p.place) _ (bytes-index version p.place fits.place)
+    (join (sized (leaf_encoding version) p.leaf) _ (bytes-sized (leaf_encoding version) p.leaf (bytes-leaf version p.leaf fits.leaf))
+    (bytes-counted (λ digest. digest) DigestFits (λ digest f. small digest f.1) (most_path version) (path-bytes version) p.path fits.path)))
 
 bytes-state : (s : State) → StateFits s → AreSmall (state_encoding s)
 bytes-state state.Unknown fits = byte 0 (omega arith)
@@ -245,29 +272,33 @@ bytes-asked : (o : Option Key) → AskedKeyFits o → AreSmall (asked_encoding o
 bytes-asked None fits = none
 bytes-asked (Some k) fits = bytes-key k fits
 
-message-small : (m : Message) → MessageFits m → AreSmall (body_of m)
-message-small (message.Submit x) fits = bytes-session x fits
-message-small (message.Propose slot view entry) fits = bytes-step slot view (entry_encoding entry) (bytes-entry entry fits.1.1)
-message-small (message.Echo slot view digest) fits = bytes-step slot view digest (small digest fits.1.1.1)
-message-small (message.Confirm slot view digest) fits = bytes-step slot view digest (small digest fits.1.1.1)
-message-small (message.Change slot view change) fits = bytes-step slot view (change_encoding change) (bytes-change view change fits.1.1.1)
-message-small (message.Voted vote asks x) fits =
+bytes-asked-place : (version : Version) (place : ℕ) → AskedPlaceFits version place → AreSmall (place_encoding version place)
+bytes-asked-place One place fits = none
+bytes-asked-place Two place fits = byte place (omega (arith, fits))
+
+message-small : (version : Version) (m : Message) → MessageFits version m → AreSmall (body_of version m)
+message-small version (message.Submit x) fits = bytes-session x fits
+message-small version (message.Propose slot view entry) fits = bytes-step slot view (entry_encoding version entry) (bytes-entry version entry fits.1.1)
+message-small version (message.Echo slot view digest) fits = bytes-step slot view digest (small digest fits.1.1.1)
+message-small version (message.Confirm slot view digest) fits = bytes-step slot view digest (small digest fits.1.1.1)
+message-small version (message.Change slot view change) fits = bytes-step slot view (change_encoding change) (bytes-change view change fits.1.1.1)
+message-small version (message.Voted vote asks x) fits =
     join (vote_encoding vote) (flag_encoding asks ++ session_encoding x) (bytes-vote vote) (join (flag_encoding asks) (session_encoding x) (bytes-flag asks) (bytes-session x fits))
-message-small (message.Decided digest accepted) fits = join digest (flag_encoding accepted) (small digest fits.1) (bytes-flag accepted)
-message-small (message.Want slot) fits = bytes-64 slot
-message-small (message.Done slot entry) fits = join (to_be_bytes w64 slot) (entry_encoding entry) (bytes-64 slot) (bytes-entry entry fits.1)
-message-small (message.Ask asked) fits = bytes-asked asked fits
-message-small (message.Told key state) fits = join (key_encoding key) (state_encoding state) (bytes-key key fits.0) (bytes-state state fits.1)
-message-small (message.Head checkpoint) fits = bytes-checkpoint checkpoint fits
-message-small (message.AskProof slot) fits = bytes-64 slot
-message-small (message.Proof proof) fits = bytes-proof proof fits
+message-small version (message.Decided digest accepted) fits = join digest (flag_encoding accepted) (small digest fits.1) (bytes-flag accepted)
+message-small version (message.Want slot) fits = bytes-64 slot
+message-small version (message.Done slot entry) fits = join (to_be_bytes w64 slot) (entry_encoding version entry) (bytes-64 slot) (bytes-entry version entry fits.1)
+message-small version (message.Ask asked) fits = bytes-asked asked fits
+message-small version (message.Told key state) fits = join (key_encoding key) (state_encoding state) (bytes-key key fits.0) (bytes-state state fits.1)
+message-small version (message.Head checkpoint) fits = bytes-checkpoint version checkpoint fits
+message-small version (message.AskProof slot place) fits = join (to_be_bytes w64 slot) (place_encoding version place) (bytes-64 slot) (bytes-asked-place version place fits.1)
+message-small version (message.Proof proof) fits = bytes-proof version proof fits
 
-pub bytes-want : (slot : ℕ) → IsBytes (body_of (message.Want slot))
-bytes-want slot = number-64 slot
+pub bytes-want : (version : Version) (slot : ℕ) → IsBytes (body_of version (message.Want slot))
+bytes-want version slot = number-64 slot
 
-pub bytes-body : (m : Message) → MessageFits m → IsBytes (body_of m)
-bytes-body m fits = are-bytes (body_of m) (message-small m fits)
+pub bytes-body : (version : Version) (m : Message) → MessageFits version m → IsBytes (body_of version m)
+bytes-body version m fits = are-bytes (body_of version m) (message-small version m fits)
 
 -- an entry by itself
-pub entry-bytes : (e : Entry) → EntryFits e → IsBytes (entry_encoding e)
-entry-bytes e fits = are-bytes (entry_encoding e) (bytes-entry e fits)
+pub entry-bytes : (version : Version) (e : Entry) → EntryFits version e → IsBytes (entry_encoding version e)
+entry-bytes version e fits = are-bytes (entry_encoding version e) (bytes-entry version e fits)

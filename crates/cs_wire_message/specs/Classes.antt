@@ -14,7 +14,7 @@ pub data Class : Type 0 where
 abbrev pub class_of : Message → Class
 class_of (message.Submit x) = OfClient
 class_of (message.Ask key) = OfClient
-class_of (message.AskProof slot) = OfClient
+class_of (message.AskProof slot place) = OfClient
 class_of (message.Propose slot view entry) = OfOrder
 class_of (message.Echo slot view digest) = OfOrder
 class_of (message.Confirm slot view digest) = OfOrder

@@ -4,13 +4,16 @@ use Rattle.std.specs.Ordering.{nat_cmp, is_lt}
 use Rattle.std.specs.Cmp.Lexicographic.{slice_cmp}
 use Rattle.std.specs.Int.{w16, w64, to_be_bytes}
 use Rattle.cs_base.specs.declared.key.Key.{Key}
-use Rattle.cs_base.specs.declared.limits.TheConstants.{LAST_VIEW, MOST_ECHOED}
+use Rattle.cs_base.specs.declared.limits.TheConstants.{LAST_VIEW, MOST_ECHOED, MOST_ACTIONS}
+use Rattle.cs_base.specs.declared.version.Version.{Version}
+use Rattle.cs_base.specs.declared.version.Version.TheVariants.{One, Two}
 use Rattle.cs_base.specs.Fields.{counted}
 use Rattle.cs_tx_value.specs.Object.{DigestFits}
 use Rattle.cs_tx_value.specs.Key.{key_encoding, KeyFits}
-use Rattle.cs_tx_types.specs.Session.{session_encoding, SessionFits, vote_encoding, entry_encoding, EntryFits}
+use Rattle.cs_tx_types.specs.Session.{session_encoding, SessionFits, vote_encoding}
+use Rattle.cs_tx_types.specs.Entry.{entry_encoding, EntryFits}
 use Rattle.cs_tx_types.specs.State.{state_encoding, StateFits}
-use Rattle.cs_tx_types.specs.Log.{checkpoint_encoding, CheckpointFits, proof_encoding, ProofFits}
+use Rattle.cs_tx_types.specs.Log.{place_encoding, checkpoint_encoding, CheckpointFits, proof_encoding, ProofFits}
 use Rattle.cs_wire_message.specs.declared.change.Change.{Change}
 use Rattle.cs_wire_message.specs.declared.kinds.TheConstants.{SUBMIT, PROPOSE, ECHO, CONFIRM, CHANGE, VOTED, DECIDED, WANT, DONE, ASK, TOLD, HEAD, ASK_PROOF, PROOF}
 use Rattle.cs_wire_message.specs.declared.message.Message.{Message}
@@ -29,7 +32,7 @@ kind_of (message.Done slot entry) = DONE
 kind_of (message.Ask key) = ASK
 kind_of (message.Told key state) = TOLD
 kind_of (message.Head checkpoint) = HEAD
-kind_of (message.AskProof slot) = ASK_PROOF
+kind_of (message.AskProof slot place) = ASK_PROOF
 kind_of (message.Proof proof) = PROOF
 
 -- the numbers of kinds: from the first to the last of these
@@ -89,21 +92,21 @@ abbrev pub asked_encoding : Option Key → List ℕ
 asked_encoding None = []
 asked_encoding (Some key) = key_encoding key
 
-abbrev pub body_of : Message → List ℕ
-body_of (message.Submit x) = session_encoding x
-body_of (message.Propose slot view entry) = to_be_bytes w64 slot ++ (to_be_bytes w16 view ++ entry_encoding entry)
-body_of (message.Echo slot view digest) = step_encoding slot view digest
-body_of (message.Confirm slot view digest) = step_encoding slot view digest
-body_of (message.Change slot view change) = to_be_bytes w64 slot ++ (to_be_bytes w16 view ++ change_encoding change)
-body_of (message.Voted vote asks x) = vote_encoding vote ++ (flag_encoding asks ++ session_encoding x)
-body_of (message.Decided digest accepted) = digest ++ flag_encoding accepted
-body_of (message.Want slot) = to_be_bytes w64 slot
-body_of (message.Done slot entry) = to_be_bytes w64 slot ++ entry_encoding entry
-body_of (message.Ask key) = asked_encoding key
-body_of (message.Told key state) = key_encoding key ++ state_encoding state
-body_of (message.Head checkpoint) = checkpoint_encoding checkpoint
-body_of (message.AskProof slot) = to_be_bytes w64 slot
-body_of (message.Proof proof) = proof_encoding proof
+abbrev pub body_of : Version → Message → List ℕ
+body_of version (message.Submit x) = session_encoding x
+body_of version (message.Propose slot view entry) = to_be_bytes w64 slot ++ (to_be_bytes w16 view ++ entry_encoding version entry)
+body_of version (message.Echo slot view digest) = step_encoding slot view digest
+body_of version (message.Confirm slot view digest) = step_encoding slot view digest
+body_of version (message.Change slot view change) = to_be_bytes w64 slot ++ (to_be_bytes w16 view ++ change_encoding change)
+body_of version (message.Voted vote asks x) = vote_encoding vote ++ (flag_encoding asks ++ session_encoding x)
+body_of version (message.Decided digest accepted) = digest ++ flag_encoding accepted
+body_of version (message.Want slot) = to_be_bytes w64 slot
+body_of version (message.Done slot entry) = to_be_bytes w64 slot ++ entry_encoding version entry
+body_of version (message.Ask key) = asked_encoding key
+body_of version (message.Told key state) = key_encoding key ++ state_encoding state
+body_of version (message.Head checkpoint) = checkpoint_encoding version checkpoint
+body_of version (message.AskProof slot place) = to_be_bytes w64 slot ++ place_encoding version place
+body_of version (message.Proof proof) = proof_encoding version proof
 
 -- ---- limits
 
@@ -120,18 +123,23 @@ abbrev pub AskedKeyFits : Option Key → Type 0
 AskedKeyFits None = Unit {0}
 AskedKeyFits (Some key) = KeyFits key
 
-abbrev pub MessageFits : Message → Type 0
-MessageFits (message.Submit x) = SessionFits x
-MessageFits (message.Propose slot view entry) = IsSlot slot × (IsView view × EntryFits entry)
-MessageFits (message.Echo slot view digest) = StepFits slot view digest
-MessageFits (message.Confirm slot view digest) = StepFits slot view digest
-MessageFits (message.Change slot view change) = IsSlot slot × (IsView view × ((1 ≤ view) × ChangeFits view change))
-MessageFits (message.Voted vote asks x) = SessionFits x
-MessageFits (message.Decided digest accepted) = DigestFits digest
-MessageFits (message.Want slot) = IsSlot slot
-MessageFits (message.Done slot entry) = IsSlot slot × EntryFits entry
-MessageFits (message.Ask key) = AskedKeyFits key
-MessageFits (message.Told key state) = KeyFits key × StateFits state
-MessageFits (message.Head checkpoint) = CheckpointFits checkpoint
-MessageFits (message.AskProof slot) = IsSlot slot
-MessageFits (message.Proof proof) = ProofFits proof
+-- the place of an action in a slot: 0, or one of 32
+abbrev pub AskedPlaceFits : Version → ℕ → Type 0
+AskedPlaceFits One place = place ≡ 0
+AskedPlaceFits Two place = place < MOST_ACTIONS
+
+abbrev pub MessageFits : Version → Message → Type 0
+MessageFits version (message.Submit x) = SessionFits x
+MessageFits version (message.Propose slot view entry) = IsSlot slot × (IsView view × EntryFits version entry)
+MessageFits version (message.Echo slot view digest) = StepFits slot view digest
+MessageFits version (message.Confirm slot view digest) = StepFits slot view digest
+MessageFits version (message.Change slot view change) = IsSlot slot × (IsView view × ((1 ≤ view) × ChangeFits view change))
+MessageFits version (message.Voted vote asks x) = SessionFits x
+MessageFits version (message.Decided digest accepted) = DigestFits digest
+MessageFits version (message.Want slot) = IsSlot slot
+MessageFits version (message.Done slot entry) = IsSlot slot × EntryFits version entry
+MessageFits version (message.Ask key) = AskedKeyFits key
+MessageFits version (message.Told key state) = KeyFits key × StateFits state
+MessageFits version (message.Head checkpoint) = CheckpointFits version checkpoint
+MessageFits version (message.AskProof slot place) = IsSlot slot × AskedPlaceFits version place
+MessageFits version (message.Proof proof) = ProofFits version proof

@@ -2,7 +2,9 @@
 use Rattle.std.specs.Prelude.{◌≡◌, ℕ, zero, suc, Bool, List, [], ◌∷◌, Option, Some, None, Result, Ok, Err, nat_le, nat_lt, if◌then◌else◌}
 use Rattle.std.specs.Int.{w8, w16}
 use Rattle.cs_base.specs.declared.key.Key.{Key}
-use Rattle.cs_base.specs.declared.limits.TheConstants.{LAST_VIEW, MOST_ECHOED}
+use Rattle.cs_base.specs.declared.limits.TheConstants.{LAST_VIEW, MOST_ECHOED, MOST_ACTIONS}
+use Rattle.cs_base.specs.declared.version.Version.{Version}
+use Rattle.cs_base.specs.declared.version.Version.TheVariants.{One, Two}
 use Rattle.cs_base.specs.Fields.{Found, ◌>>=◌, ◌<$>◌, number_at, bytes_at, upto_at, pair_at, tested_at}
 use Rattle.cs_tx_value.specs.Kinds.{kinds_at}
 use Rattle.cs_tx_value.specs.Key.{key_at}
@@ -12,7 +14,8 @@ use Rattle.cs_tx_types.specs.declared.session.Session.{Session}
 use Rattle.cs_tx_types.specs.declared.vote.Vote.{Vote}
 use Rattle.cs_tx_types.specs.declared.entry.Entry.{Entry}
 use Rattle.cs_tx_types.specs.declared.state.State.{State}
-use Rattle.cs_tx_types.specs.Reading.{session_at, vote_at, entry_at, state_at}
+use Rattle.cs_tx_types.specs.Reading.{session_at, vote_at, state_at}
+use Rattle.cs_tx_types.specs.Entry.{entry_at}
 use Rattle.cs_tx_types.specs.Log.{slot_at, checkpoint_at, proof_at}
 use Rattle.cs_wire_message.specs.declared.change.Change.{Change}
 use Rattle.cs_wire_message.specs.declared.message.Message.{Message}
@@ -82,8 +85,8 @@ claim_at = pair_at slot_at (upto_at w16 LAST_VIEW claimed_at)
 
 -- ---- bodies
 
-unfoldable pub propose_at : List ℕ → Found (ℕ × (ℕ × Entry))
-propose_at = pair_at slot_at (pair_at view_number_at entry_at)
+unfoldable pub propose_at : Version → List ℕ → Found (ℕ × (ℕ × Entry))
+propose_at version = pair_at slot_at (pair_at view_number_at (entry_at version))
 
 unfoldable pub step_at : List ℕ → Found (ℕ × (ℕ × List ℕ))
 step_at = pair_at slot_at (pair_at view_number_at (bytes_at 32))
@@ -94,8 +97,16 @@ voted_at = pair_at vote_at (pair_at flag_at session_at)
 unfoldable pub decided_message_at : List ℕ → Found (List ℕ × Bool)
 decided_message_at = pair_at (bytes_at 32) flag_at
 
-unfoldable pub done_at : List ℕ → Found (ℕ × Entry)
-done_at = pair_at slot_at entry_at
+unfoldable pub done_at : Version → List ℕ → Found (ℕ × Entry)
+done_at version = pair_at slot_at (entry_at version)
+
+-- the place of an action in a slot, which version 1 leaves out
+abbrev pub asked_place_at : Version → List ℕ → Found ℕ
+asked_place_at One bytes = Some (0, bytes)
+asked_place_at Two bytes = tested_at (λ n. nat_lt n MOST_ACTIONS) (number_at w8) bytes
+
+unfoldable pub ask_proof_at : Version → List ℕ → Found (ℕ × ℕ)
+ask_proof_at version = pair_at slot_at (asked_place_at version)
 
 unfoldable pub told_message_at : List ℕ → Found (Key × State)
 told_message_at = pair_at key_at state_at
@@ -124,27 +135,30 @@ done_of p = message.Done p.0 p.1
 abbrev pub asked_of : Key → Message
 asked_of key = message.Ask (Some key)
 
+abbrev pub ask_proof_of : ℕ × ℕ → Message
+ask_proof_of p = message.AskProof p.0 p.1
+
 abbrev pub told_message : Key × State → Message
 told_message p = message.Told p.0 p.1
 
 -- the body of a message of this kind, but for one of no byte
-abbrev pub message_at : ℕ → List ℕ → Found Message
-message_at zero bytes = None
-message_at (suc zero) bytes = message.Submit <$> session_at bytes
-message_at (suc (suc zero)) bytes = propose_of <$> propose_at bytes
-message_at (suc (suc (suc zero))) bytes = echo_of <$> step_at bytes
-message_at (suc (suc (suc (suc zero)))) bytes = confirm_of <$> step_at bytes
-message_at (suc (suc (suc (suc (suc zero))))) bytes = change_from <$> claim_at bytes
-message_at (suc (suc (suc (suc (suc (suc zero)))))) bytes = voted_of <$> voted_at bytes
-message_at (suc (suc (suc (suc (suc (suc (suc zero))))))) bytes = decided_of <$> decided_message_at bytes
-message_at (suc (suc (suc (suc (suc (suc (suc (suc zero)))))))) bytes = message.Want <$> slot_at bytes
-message_at (suc (suc (suc (suc (suc (suc (suc (suc (suc zero))))))))) bytes = done_of <$> done_at bytes
-message_at (suc (suc (suc (suc (suc (suc (suc (suc (suc (suc zero)))))))))) bytes = asked_of <$> key_at bytes
-message_at (suc (suc (suc (suc (suc (suc (suc (suc (suc (suc (suc zero))))))))))) bytes = told_message <$> told_message_at bytes
-message_at (suc (suc (suc (suc (suc (suc (suc (suc (suc (suc (suc (suc zero)))))))))))) bytes =
-    message.Head <$> checkpoint_at bytes
-message_at (suc (suc (suc (suc (suc (suc (suc (suc (suc (suc (suc (suc (suc zero))))))))))))) bytes =
-    message.AskProof <$> slot_at bytes
-message_at (suc (suc (suc (suc (suc (suc (suc (suc (suc (suc (suc (suc (suc (suc zero)))))))))))))) bytes =
-    message.Proof <$> proof_at bytes
-message_at (suc (suc (suc (suc (suc (suc (suc (suc (suc (suc (suc (suc (suc (suc (suc kind))))))))))))))) bytes = None
+abbrev pub message_at : Version → ℕ → List ℕ → Found Message
+message_at version zero bytes = None
+message_at version (suc zero) bytes = message.Submit <$> session_at bytes
+message_at version (suc (suc zero)) bytes = propose_of <$> propose_at version bytes
+message_at version (suc (suc (suc zero))) bytes = echo_of <$> step_at bytes
+message_at version (suc (suc (suc (suc zero)))) bytes = confirm_of <$> step_at bytes
+message_at version (suc (suc (suc (suc (suc zero))))) bytes = change_from <$> claim_at bytes
+message_at version (suc (suc (suc (suc (suc (suc zero)))))) bytes = voted_of <$> voted_at bytes
+message_at version (suc (suc (suc (suc (suc (suc (suc zero))))))) bytes = decided_of <$> decided_message_at bytes
+message_at version (suc (suc (suc (suc (suc (suc (suc (suc zero)))))))) bytes = message.Want <$> slot_at bytes
+message_at version (suc (suc (suc (suc (suc (suc (suc (suc (suc zero))))))))) bytes = done_of <$> done_at version bytes
+message_at version (suc (suc (suc (suc (suc (suc (suc (suc (suc (suc zero)))))))))) bytes = asked_of <$> key_at bytes
+message_at version (suc (suc (suc (suc (suc (suc (suc (suc (suc (suc (suc zero))))))))))) bytes = told_message <$> told_message_at bytes
+message_at version (suc (suc (suc (suc (suc (suc (suc (suc (suc (suc (suc (suc zero)))))))))))) bytes =
+    message.Head <$> checkpoint_at version bytes
+message_at version (suc (suc (suc (suc (suc (suc (suc (suc (suc (suc (suc (suc (suc zero))))))))))))) bytes =
+    ask_proof_of <$> ask_proof_at version bytes
+message_at version (suc (suc (suc (suc (suc (suc (suc (suc (suc (suc (suc (suc (suc (suc zero)))))))))))))) bytes =
+    message.Proof <$> proof_at version bytes
+message_at version (suc (suc (suc (suc (suc (suc (suc (suc (suc (suc (suc (suc (suc (suc (suc kind))))))))))))))) bytes = None

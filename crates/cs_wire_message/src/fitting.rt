@@ -1,12 +1,13 @@
 //! Whether a message has a body.
 ghost use Rattle.std.specs.Prelude.{◌≡◌, ◌<◌, ◌↔◌, true, None, IsTrue};
 ghost use Rattle.cs_tx_value.specs.Object.{DigestFits};
-ghost use Rattle.cs_wire_message.specs.Message.{IsSlot, IsView, is_after_last, Rise, PreparedFits, ChangeFits, StepFits, AskedKeyFits, MessageFits};
+ghost use Rattle.cs_wire_message.specs.Message.{IsSlot, IsView, is_after_last, Rise, PreparedFits, ChangeFits, StepFits, AskedKeyFits, AskedPlaceFits, MessageFits};
 
 use crate::change::Change;
 use crate::message::Message;
 use crate::rising::comes_after;
-use cs_base::{Key, LAST_SLOT, LAST_VIEW, MOST_ECHOED};
+use cs_base::{Key, LAST_SLOT, LAST_VIEW, MOST_ACTIONS, MOST_ECHOED, Version};
+use cs_tx_types::Versioned;
 use cs_tx_value::{Digest, Encoded};
 
 fn is_slot(slot: u64) -> bool
@@ -75,15 +76,25 @@ fn asked_fits(key: &Option<Key>) -> bool
     }
 }
 
+fn asked_place_fits(place: u8, version: Version) -> bool
+    ensures { IsTrue result ↔ AskedPlaceFits version place }
+{
+    match version {
+        Version::One => place == 0,
+        Version::Two => place < MOST_ACTIONS,
+    }
+}
+
 impl Message {
-    /// Whether the message is within all limits, so that it has a body and can be sealed.
-    pub fn fits(&self) -> bool
-        ensures { IsTrue result ↔ MessageFits self.now }
+    /// Whether the message is within all limits of a version, so that it has a body and can be
+    /// sealed.
+    pub fn fits(&self, version: Version) -> bool
+        ensures { IsTrue result ↔ MessageFits version self.now }
     {
         match self {
             Message::Submit(session) => session.fits(),
             Message::Propose { slot, view, entry } => {
-                is_slot(*slot) && is_view(*view) && entry.fits()
+                is_slot(*slot) && is_view(*view) && entry.is_within(version)
             }
             Message::Echo { slot, view, digest } => step_fits(*slot, *view, digest),
             Message::Confirm { slot, view, digest } => step_fits(*slot, *view, digest),
@@ -93,12 +104,14 @@ impl Message {
             Message::Voted { session, .. } => session.fits(),
             Message::Decided { session, .. } => session.fits(),
             Message::Want { slot } => is_slot(*slot),
-            Message::Done { slot, entry } => is_slot(*slot) && entry.fits(),
+            Message::Done { slot, entry } => is_slot(*slot) && entry.is_within(version),
             Message::Ask(key) => asked_fits(key),
             Message::Told { key, state } => key.fits() && state.fits(),
-            Message::Head(checkpoint) => checkpoint.fits(),
-            Message::AskProof { slot } => is_slot(*slot),
-            Message::Proof(proof) => proof.fits(),
+            Message::Head(checkpoint) => checkpoint.is_within(version),
+            Message::AskProof { slot, place } => {
+                is_slot(*slot) && asked_place_fits(*place, version)
+            }
+            Message::Proof(proof) => proof.is_within(version),
         }
     }
 }

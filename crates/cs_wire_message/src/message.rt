@@ -12,7 +12,7 @@ use cs_tx_types::{Checkpoint, Entry, Proof, Session, State, Vote};
 use cs_tx_value::Digest;
 
 /// What a node or a client says to another. One that fits has slots below 2^62 and views of at most
-/// 1,023, and all that it holds fits.
+/// 1,023, and all that it holds fits in the version.
 #[derive(Drop)]
 pub enum Message {
     /// A client wants the session to be tried.
@@ -70,9 +70,10 @@ pub enum Message {
     },
     /// A member has made a checkpoint.
     Head(Checkpoint),
-    /// A client asks for the proof of a slot.
+    /// A client asks for the proof of an action: its slot, and its place there.
     AskProof {
         slot: u64,
+        place: u8,
     },
     /// The proof of a slot.
     Proof(Proof),

@@ -1,7 +1,7 @@
 //! Reading bodies.
 ghost use Rattle.std.specs.Prelude.{◌≡◌};
 ghost use Rattle.cs_tx_value.specs.Reading.{ReadsValue};
-ghost use Rattle.cs_wire_message.specs.Reading.{propose_at, step_at, voted_at, decided_message_at, done_at, told_message_at, message_at};
+ghost use Rattle.cs_wire_message.specs.Reading.{propose_at, step_at, voted_at, decided_message_at, done_at, asked_place_at, ask_proof_at, told_message_at, message_at};
 
 use crate::kinds::{
     ASK, ASK_PROOF, CHANGE, CONFIRM, DECIDED, DONE, ECHO, HEAD, PROOF, PROPOSE, SUBMIT, TOLD,
@@ -10,18 +10,22 @@ use crate::kinds::{
 use crate::message::Message;
 use crate::rising::read_claim;
 use crate::view::{read_flag, read_view};
-use cs_base::{Cursor, Key};
-use cs_tx_types::{Checkpoint, Entry, Proof, Session, State, Vote, read_slot};
+use cs_base::{Cursor, Key, MOST_ACTIONS, Version};
+use cs_tx_types::{Checkpoint, Entry, Proof, Session, State, Versioned, Vote, read_slot};
 use cs_tx_value::{Digest, Encoded, FormError};
 use std::alloc::Global;
 
 #[tactic(auto, unfolding(crate::specs::Reading::propose_at, cs_base::specs::Fields::pair_at))]
-fn read_propose(alloc: Global, cursor: &mut Cursor<'_>) -> Result<(u64, (u16, Entry)), FormError>
-    ensures { ReadsValue result cursor.new (propose_at cursor.old) }
+fn read_propose(
+    alloc: Global,
+    cursor: &mut Cursor<'_>,
+    version: Version,
+) -> Result<(u64, (u16, Entry)), FormError>
+    ensures { ReadsValue result cursor.new (propose_at version cursor.old) }
 {
     let slot = read_slot(cursor)?;
     let view = read_view(cursor)?;
-    let entry = Entry::read(alloc, cursor)?;
+    let entry = Entry::read(alloc, cursor, version)?;
     Ok((slot, (view, entry)))
 }
 
@@ -55,12 +59,42 @@ fn read_decided(alloc: Global, cursor: &mut Cursor<'_>) -> Result<(Digest, bool)
 }
 
 #[tactic(auto, unfolding(crate::specs::Reading::done_at, cs_base::specs::Fields::pair_at))]
-fn read_done(alloc: Global, cursor: &mut Cursor<'_>) -> Result<(u64, Entry), FormError>
-    ensures { ReadsValue result cursor.new (done_at cursor.old) }
+fn read_done(
+    alloc: Global,
+    cursor: &mut Cursor<'_>,
+    version: Version,
+) -> Result<(u64, Entry), FormError>
+    ensures { ReadsValue result cursor.new (done_at version cursor.old) }
 {
     let slot = read_slot(cursor)?;
-    let entry = Entry::read(alloc, cursor)?;
+    let entry = Entry::read(alloc, cursor, version)?;
     Ok((slot, entry))
+}
+
+// The place of an action in a slot: 0, or one of 32.
+#[tactic(auto, unfolding(cs_base::specs::Fields::tested_at))]
+fn read_asked_place(cursor: &mut Cursor<'_>, version: Version) -> Result<u8, FormError>
+    ensures { ReadsValue result cursor.new (asked_place_at version cursor.old) }
+{
+    match version {
+        Version::One => Ok(0),
+        Version::Two => {
+            let place = cursor.u8()?;
+            if place >= MOST_ACTIONS {
+                return Err(FormError::BadForm);
+            }
+            Ok(place)
+        }
+    }
+}
+
+#[tactic(auto, unfolding(crate::specs::Reading::ask_proof_at, cs_base::specs::Fields::pair_at))]
+fn read_ask_proof(cursor: &mut Cursor<'_>, version: Version) -> Result<(u64, u8), FormError>
+    ensures { ReadsValue result cursor.new (ask_proof_at version cursor.old) }
+{
+    let slot = read_slot(cursor)?;
+    let place = read_asked_place(cursor, version)?;
+    Ok((slot, place))
 }
 
 #[tactic(auto, unfolding(crate::specs::Reading::told_message_at, cs_base::specs::Fields::pair_at))]
@@ -73,13 +107,18 @@ fn read_told(alloc: Global, cursor: &mut Cursor<'_>) -> Result<(Key, State), For
 }
 
 /// The body of a message of this kind, but for one of no byte.
-pub fn read_message(alloc: Global, cursor: &mut Cursor<'_>, kind: u8) -> Result<Message, FormError>
-    ensures { ReadsValue result cursor.new (message_at kind cursor.old) }
+pub fn read_message(
+    alloc: Global,
+    cursor: &mut Cursor<'_>,
+    kind: u8,
+    version: Version,
+) -> Result<Message, FormError>
+    ensures { ReadsValue result cursor.new (message_at version kind cursor.old) }
 {
     match kind {
         SUBMIT => Ok(Message::Submit(Session::read(alloc, cursor)?)),
         PROPOSE => {
-            let (slot, (view, entry)) = read_propose(alloc, cursor)?;
+            let (slot, (view, entry)) = read_propose(alloc, cursor, version)?;
             Ok(Message::Propose { slot, view, entry })
         }
         ECHO => {
@@ -110,7 +149,7 @@ pub fn read_message(alloc: Global, cursor: &mut Cursor<'_>, kind: u8) -> Result<
             slot: read_slot(cursor)?,
         }),
         DONE => {
-            let (slot, entry) = read_done(alloc, cursor)?;
+            let (slot, entry) = read_done(alloc, cursor, version)?;
             Ok(Message::Done { slot, entry })
         }
         ASK => Ok(Message::Ask(Some(Key::read(alloc, cursor)?))),
@@ -118,11 +157,12 @@ pub fn read_message(alloc: Global, cursor: &mut Cursor<'_>, kind: u8) -> Result<
             let (key, state) = read_told(alloc, cursor)?;
             Ok(Message::Told { key, state })
         }
-        HEAD => Ok(Message::Head(Checkpoint::read(alloc, cursor)?)),
-        ASK_PROOF => Ok(Message::AskProof {
-            slot: read_slot(cursor)?,
-        }),
-        PROOF => Ok(Message::Proof(Proof::read(alloc, cursor)?)),
+        HEAD => Ok(Message::Head(Checkpoint::read(alloc, cursor, version)?)),
+        ASK_PROOF => {
+            let (slot, place) = read_ask_proof(cursor, version)?;
+            Ok(Message::AskProof { slot, place })
+        }
+        PROOF => Ok(Message::Proof(Proof::read(alloc, cursor, version)?)),
         _ => Err(FormError::BadForm),
     }
 }

@@ -4,7 +4,8 @@ ghost use Rattle.cs_wire_message.specs.Message.{step_encoding, change_encoding, 
 
 use crate::change::Change;
 use crate::message::Message;
-use cs_base::Key;
+use cs_base::{Key, Version};
+use cs_tx_types::{Versioned, room_place};
 use cs_tx_value::{Digest, Encoded, room_counted};
 
 /// The bytes of a slot.
@@ -48,14 +49,14 @@ fn room_asked(key: &Option<Key>, room: usize) -> Option<usize>
 
 impl Message {
     /// What is left of so much room behind the body, or None where the body is longer.
-    pub fn room(&self, room: usize) -> Option<usize>
-        ensures { LeavesRoom (body_of self.now) room result }
+    pub fn room(&self, room: usize, version: Version) -> Option<usize>
+        ensures { LeavesRoom (body_of version self.now) room result }
     {
         match self {
             Message::Submit(session) => session.room(room),
             Message::Propose { entry, .. } => {
                 let room = room.checked_sub(STEP)?;
-                entry.room(room)
+                entry.room(room, version)
             }
             Message::Echo { slot, view, digest } => room_step(*slot, *view, digest, room),
             Message::Confirm { slot, view, digest } => room_step(*slot, *view, digest, room),
@@ -75,16 +76,19 @@ impl Message {
             Message::Want { slot } => slot.room(room),
             Message::Done { entry, .. } => {
                 let room = room.checked_sub(SLOT)?;
-                entry.room(room)
+                entry.room(room, version)
             }
             Message::Ask(key) => room_asked(key, room),
             Message::Told { key, state } => {
                 let room = key.room(room)?;
                 state.room(room)
             }
-            Message::Head(checkpoint) => checkpoint.room(room),
-            Message::AskProof { slot } => slot.room(room),
-            Message::Proof(proof) => proof.room(room),
+            Message::Head(checkpoint) => checkpoint.room(room, version),
+            Message::AskProof { slot, place } => {
+                let room = slot.room(room)?;
+                room_place(*place, room, version)
+            }
+            Message::Proof(proof) => proof.room(room, version),
         }
     }
 }

@@ -7,7 +7,8 @@ ghost use Rattle.cs_wire_message.specs.Message.{flag_encoding, step_encoding, pr
 
 use crate::change::Change;
 use crate::message::Message;
-use cs_base::{Key, MOST_BODY, Memory, Writer};
+use cs_base::{Key, MOST_BODY, Memory, Version, Writer};
+use cs_tx_types::{Versioned, write_place};
 use cs_tx_value::{Digest, Encoded, write_counted};
 use std::alloc::Global;
 
@@ -65,9 +66,9 @@ fn write_asked(key: &Option<Key>, out: &mut Writer) -> Result<(), Memory>
 }
 
 /// Appends the body of a message.
-pub fn write_body(message: &Message, out: &mut Writer) -> Result<(), Memory>
-    requires { MessageFits message.now }
-    ensures ok { OnOk result (out.new ≡ out.old ++ body_of message.now) }
+pub fn write_body(message: &Message, out: &mut Writer, version: Version) -> Result<(), Memory>
+    requires { MessageFits version message.now }
+    ensures ok { OnOk result (out.new ≡ out.old ++ body_of version message.now) }
     ensures err { OnErr result (Begins out.new out.old) }
 {
     match message {
@@ -75,7 +76,7 @@ pub fn write_body(message: &Message, out: &mut Writer) -> Result<(), Memory>
         Message::Propose { slot, view, entry } => {
             slot.encode(out)?;
             view.encode(out)?;
-            entry.encode(out)
+            entry.write(out, version)
         }
         Message::Echo { slot, view, digest } => write_step(*slot, *view, digest, out),
         Message::Confirm { slot, view, digest } => write_step(*slot, *view, digest, out),
@@ -100,28 +101,31 @@ pub fn write_body(message: &Message, out: &mut Writer) -> Result<(), Memory>
         Message::Want { slot } => slot.encode(out),
         Message::Done { slot, entry } => {
             slot.encode(out)?;
-            entry.encode(out)
+            entry.write(out, version)
         }
         Message::Ask(key) => write_asked(key, out),
         Message::Told { key, state } => {
             key.encode(out)?;
             state.encode(out)
         }
-        Message::Head(checkpoint) => checkpoint.encode(out),
-        Message::AskProof { slot } => slot.encode(out),
-        Message::Proof(proof) => proof.encode(out),
+        Message::Head(checkpoint) => checkpoint.write(out, version),
+        Message::AskProof { slot, place } => {
+            slot.encode(out)?;
+            write_place(*place, out, version)
+        }
+        Message::Proof(proof) => proof.write(out, version),
     }
 }
 
 /// The body of a message. It takes its room at once.
 #[tactic(auto, using(crate::proofs::Short::body_short))]
-pub fn body_of(alloc: Global, message: &Message) -> Result<Vec<u8>, Memory>
-    requires { MessageFits message.now }
-    ensures is { IfOk result (λ body. body.items ≡ body_of message.now) }
+pub fn body_of(alloc: Global, message: &Message, version: Version) -> Result<Vec<u8>, Memory>
+    requires { MessageFits version message.now }
+    ensures is { IfOk result (λ body. body.items ≡ body_of version message.now) }
     ensures short { IfOk result (λ body. length body.items ≤ MOST_BODY) }
 {
-    let left = message.room(MOST_BODY).unwrap_or(0);
+    let left = message.room(MOST_BODY, version).unwrap_or(0);
     let mut out = Writer::with_room(alloc, MOST_BODY - left)?;
-    write_body(message, &mut out)?;
+    write_body(message, &mut out, version)?;
     Ok(out.into_bytes())
 }

@@ -17,14 +17,14 @@ use Rattle.cs_tx_types.specs.declared.transaction.Tx.{Tx}
 use Rattle.cs_tx_types.specs.declared.session.Session.{Session}
 use Rattle.cs_tx_types.specs.declared.vote.Vote.{Vote}
 use Rattle.cs_tx_types.specs.declared.vote.Vote.TheVariants as vote
-use Rattle.cs_tx_types.specs.declared.entry.Entry.{Entry}
-use Rattle.cs_tx_types.specs.declared.entry.Entry.TheVariants as entry
+use Rattle.cs_tx_types.specs.declared.action.Action.{Action}
+use Rattle.cs_tx_types.specs.declared.action.Action.TheVariants as action
 use Rattle.cs_tx_types.specs.declared.state.State.{State}
 use Rattle.cs_tx_types.specs.declared.state.State.TheVariants as state
 use Rattle.cs_tx_types.specs.Transaction.{keyed_encoding, KeyedFits, trace_encoding, TraceFits, tx_encoding, TxFits, tx_of}
-use Rattle.cs_tx_types.specs.Session.{dummy_encoding, session_encoding, SessionFits, vote_encoding, entry_encoding, EntryFits}
+use Rattle.cs_tx_types.specs.Session.{dummy_encoding, session_encoding, SessionFits, vote_encoding, action_encoding, ActionFits}
 use Rattle.cs_tx_types.specs.State.{readers_differ, readers_encoding, ReadersFit, state_encoding, StateFits}
-use Rattle.cs_tx_types.specs.Reading.{keyed_at, Front, Back, front_at, back_at, trace_of_parts, trace_at, tx_at, session_of_parts, session_at, vote_kind_at, vote_at, decide_entry, entry_kind_at, entry_at, locked_state, readers_at, shared_state, state_kind_at, state_at}
+use Rattle.cs_tx_types.specs.Reading.{keyed_at, Front, Back, front_at, back_at, trace_of_parts, trace_at, tx_at, session_of_parts, session_at, vote_kind_at, vote_at, decide_action, action_kind_at, action_at, locked_state, readers_at, shared_state, state_kind_at, state_at}
 
 -- ---- traces and transactions
 
@@ -79,7 +79,7 @@ session_form =
     session_of_parts (λ x. (x.tx, (x.number, x.dummies))) SessionFits
     (λ p h. (refl, record { tx = h.0; number = h.1.0; dummies = h.1.1 })) (λ x h. (refl, (h.tx, (h.number, h.dummies))))
 
--- ---- votes and entries
+-- ---- votes and actions
 
 vote_takes : (kind : ℕ) (bytes : List ℕ) (v : Vote) (rest : List ℕ) → IsBytes bytes
     → vote_kind_at kind bytes ≡ Some (v, rest) → Splits (kind ∷ bytes) (vote_encoding v) rest × Unit {0}
@@ -101,26 +101,26 @@ vote_form = kinds_form vote_encoding (λ _. Unit {0}) vote_kind_at vote_takes vo
 decided_form : IsForm (λ p. vote_encoding p.0 ++ session_encoding p.1) (λ p. Unit {0} × SessionFits p.1) (pair_at vote_at session_at)
 decided_form = pair_of vote_form session_form
 
-entry_takes : (kind : ℕ) (bytes : List ℕ) (e : Entry) (rest : List ℕ) → IsBytes bytes
-    → entry_kind_at kind bytes ≡ Some (e, rest) → Splits (kind ∷ bytes) (entry_encoding e) rest × EntryFits e
-entry_takes zero bytes e rest fits is =
-    takes_part entry_encoding EntryFits entry_kind_at session_form entry.Prepare 0 (λ x. refl) (λ x h. h) bytes e rest
+action_takes : (kind : ℕ) (bytes : List ℕ) (e : Action) (rest : List ℕ) → IsBytes bytes
+    → action_kind_at kind bytes ≡ Some (e, rest) → Splits (kind ∷ bytes) (action_encoding e) rest × ActionFits e
+action_takes zero bytes e rest fits is =
+    takes_part action_encoding ActionFits action_kind_at session_form action.Prepare 0 (λ x. refl) (λ x h. h) bytes e rest
     fits is
-entry_takes (suc zero) bytes e rest fits is =
-    takes_part entry_encoding EntryFits entry_kind_at decided_form decide_entry 1 (λ p. refl) (λ p h. h.1) bytes e rest fits
+action_takes (suc zero) bytes e rest fits is =
+    takes_part action_encoding ActionFits action_kind_at decided_form decide_action 1 (λ p. refl) (λ p h. h.1) bytes e rest fits
     is
-entry_takes (suc (suc kind)) bytes e rest fits is = absurd cc
+action_takes (suc (suc kind)) bytes e rest fits is = absurd cc
 
-entry_again : (e : Entry) (rest : List ℕ) → EntryFits e → Kinded entry_encoding entry_kind_at e rest
-entry_again (entry.Prepare x) rest fits =
-    part_kinded entry_encoding EntryFits entry_kind_at session_form entry.Prepare 0 (omega arith) (λ x. refl)
+action_again : (e : Action) (rest : List ℕ) → ActionFits e → Kinded action_encoding action_kind_at e rest
+action_again (action.Prepare x) rest fits =
+    part_kinded action_encoding ActionFits action_kind_at session_form action.Prepare 0 (omega arith) (λ x. refl)
     (λ bytes. refl) x rest fits
-entry_again (entry.Decide v x) rest fits =
-    part_kinded entry_encoding EntryFits entry_kind_at decided_form decide_entry 1 (omega arith) (λ p. refl) (λ bytes. refl)
+action_again (action.Decide v x) rest fits =
+    part_kinded action_encoding ActionFits action_kind_at decided_form decide_action 1 (omega arith) (λ p. refl) (λ bytes. refl)
     (v, x) rest (tt, fits)
 
-pub entry_form : IsForm entry_encoding EntryFits entry_at
-entry_form = kinds_form entry_encoding EntryFits entry_kind_at entry_takes entry_again
+pub action_form : IsForm action_encoding ActionFits action_at
+action_form = kinds_form action_encoding ActionFits action_kind_at action_takes action_again
 
 -- ---- states
 
@@ -184,7 +184,7 @@ session_short x fits = omega (
   length-append (to_be_bytes w64 x.number) (counted dummy_encoding x.dummies),
 )
 
-pub entry_short : (e : Entry) → EntryFits e → length (entry_encoding e) ≤ MOST_ENTRY
-entry_short (entry.Prepare x) fits = omega (arith, session_short x fits)
-entry_short (entry.Decide vote.Abort x) fits = omega (arith, session_short x fits)
-entry_short (entry.Decide vote.Commit x) fits = omega (arith, session_short x fits)
+pub action_short : (e : Action) → ActionFits e → length (action_encoding e) ≤ MOST_ENTRY
+action_short (action.Prepare x) fits = omega (arith, session_short x fits)
+action_short (action.Decide vote.Abort x) fits = omega (arith, session_short x fits)
+action_short (action.Decide vote.Commit x) fits = omega (arith, session_short x fits)

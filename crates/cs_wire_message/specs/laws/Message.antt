@@ -3,7 +3,9 @@ use Rattle.std.proofs.Common.{◌≡◌, ℕ, zero, suc, ◌^◌, ◌<◌, ◌�
 use Rattle.std.specs.Prelude.{nat_le, nat_lt, if◌then◌else◌}
 use Rattle.std.specs.Int.{w8, w16, w64, to_be_bytes}
 use Rattle.std.proofs.lemmas.Bool.{leb-true, le-leb, ltb-true, lt-ltb}
-use Rattle.cs_base.specs.declared.limits.TheConstants.{LAST_VIEW, MOST_ECHOED}
+use Rattle.cs_base.specs.declared.limits.TheConstants.{LAST_VIEW, MOST_ECHOED, MOST_ACTIONS}
+use Rattle.cs_base.specs.declared.version.Version.{Version}
+use Rattle.cs_base.specs.declared.version.Version.TheVariants.{One, Two}
 use Rattle.cs_base.specs.Fields.{IsBytes, ◌>>=◌, ◌<$>◌, each, counted, Splits, IsForm, pair_at}
 use Rattle.cs_base.proofs.Forms.{wide16, number_form, byte_form, bytes_form, pair_of, tested_of, mapped_of, weaker_form, upto_form, bind_some, when_some, some_is, Takes-then}
 use Rattle.cs_tx_value.specs.Kinds.{kinds_at}
@@ -11,14 +13,17 @@ use Rattle.cs_tx_value.specs.laws.Kinds.{kinds_form, takes_part, part_kinded, ta
 use Rattle.cs_tx_value.specs.laws.Key.{key_form}
 use Rattle.cs_tx_value.specs.Object.{DigestFits}
 use Rattle.cs_tx_value.specs.Key.{key_encoding, KeyFits}
-use Rattle.cs_tx_types.specs.Session.{session_encoding, SessionFits, vote_encoding, entry_encoding, EntryFits}
+use Rattle.cs_tx_types.specs.Session.{session_encoding, SessionFits, vote_encoding}
+use Rattle.cs_tx_types.specs.Entry.{entry_encoding, EntryFits}
+use Rattle.cs_tx_types.specs.Log.{place_encoding}
 use Rattle.cs_tx_types.specs.State.{state_encoding, StateFits}
-use Rattle.cs_tx_types.specs.laws.Session.{session_form, vote_form, entry_form, state_form}
-use Rattle.cs_tx_types.specs.laws.Log.{slot_form, checkpoint_form, proof_form}
+use Rattle.cs_tx_types.specs.laws.Session.{session_form, vote_form, state_form}
+use Rattle.cs_tx_types.specs.laws.Entry.{entry_form}
+use Rattle.cs_tx_types.specs.laws.Log.{given_form, slot_form, checkpoint_form, proof_form}
 use Rattle.cs_wire_message.specs.declared.message.Message.{Message}
 use Rattle.cs_wire_message.specs.declared.message.Message.TheVariants as message
-use Rattle.cs_wire_message.specs.Message.{kind_of, body_of, MessageFits, IsView, prepared_encoding, PreparedFits, echo_encoding, is_after_last, Rise, change_encoding, ChangeFits, flag_encoding}
-use Rattle.cs_wire_message.specs.Reading.{view_number_at, below_at, flag_at, echo_at, rising_at, echoed_at, some_pair, prepared_kind_at, prepared_at, Claim, claim_of_parts, claimed_at, claim_at, propose_at, step_at, voted_at, decided_message_at, done_at, told_message_at, propose_of, echo_of, confirm_of, change_from, voted_of, decided_of, done_of, asked_of, told_message, message_at}
+use Rattle.cs_wire_message.specs.Message.{kind_of, body_of, AskedPlaceFits, MessageFits, IsView, prepared_encoding, PreparedFits, echo_encoding, is_after_last, Rise, change_encoding, ChangeFits, flag_encoding}
+use Rattle.cs_wire_message.specs.Reading.{view_number_at, below_at, flag_at, echo_at, rising_at, echoed_at, some_pair, prepared_kind_at, prepared_at, Claim, claim_of_parts, claimed_at, claim_at, propose_at, step_at, voted_at, decided_message_at, done_at, asked_place_at, ask_proof_at, told_message_at, propose_of, echo_of, confirm_of, change_from, voted_of, decided_of, done_of, asked_of, ask_proof_of, told_message, message_at}
 
 -- ---- views and flags
 
@@ -167,119 +172,131 @@ claim_form =
     pair_of slot_form
     (upto_form w16 (2 ^ 16) (to_be_bytes w16) (number_form w16 (2 ^ 16) wide16) LAST_VIEW (omega arith) (λ c. c.0) claim_encoding ClaimFits claimed_at (λ n. record { takes = claimed-takes n; again = claimed-again n }))
 
--- ---- bodies
+module _ (version : Version) where
+  -- ---- bodies
 
-propose_form : IsForm (λ p. to_be_bytes w64 p.0 ++ (to_be_bytes w16 p.1.0 ++ entry_encoding p.1.1)) (λ p. (p.0 < 2 ^ 62) × (IsView p.1.0 × EntryFits p.1.1)) propose_at
-unfolding propose_at
-propose_form = pair_of slot_form (pair_of view_form entry_form)
+  propose_form : IsForm (λ p. to_be_bytes w64 p.0 ++ (to_be_bytes w16 p.1.0 ++ entry_encoding version p.1.1)) (λ p. (p.0 < 2 ^ 62) × (IsView p.1.0 × EntryFits version p.1.1)) (propose_at version)
+  unfolding propose_at
+  propose_form = pair_of slot_form (pair_of view_form (entry_form version))
 
-step_form : IsForm (λ p. to_be_bytes w64 p.0 ++ (to_be_bytes w16 p.1.0 ++ p.1.1)) (λ p. (p.0 < 2 ^ 62) × (IsView p.1.0 × DigestFits p.1.1)) step_at
-unfolding step_at
-step_form = pair_of slot_form (pair_of view_form (bytes_form 32))
+  step_form : IsForm (λ p. to_be_bytes w64 p.0 ++ (to_be_bytes w16 p.1.0 ++ p.1.1)) (λ p. (p.0 < 2 ^ 62) × (IsView p.1.0 × DigestFits p.1.1)) step_at
+  unfolding step_at
+  step_form = pair_of slot_form (pair_of view_form (bytes_form 32))
 
-voted_form : IsForm (λ p. vote_encoding p.0 ++ (flag_encoding p.1.0 ++ session_encoding p.1.1)) (λ p. Unit {0} × (Unit {0} × SessionFits p.1.1)) voted_at
-unfolding voted_at
-voted_form = pair_of vote_form (pair_of flag_form session_form)
+  voted_form : IsForm (λ p. vote_encoding p.0 ++ (flag_encoding p.1.0 ++ session_encoding p.1.1)) (λ p. Unit {0} × (Unit {0} × SessionFits p.1.1)) voted_at
+  unfolding voted_at
+  voted_form = pair_of vote_form (pair_of flag_form session_form)
 
-decided_form : IsForm (λ p. p.0 ++ flag_encoding p.1) (λ p. DigestFits p.0 × Unit {0}) decided_message_at
-unfolding decided_message_at
-decided_form = pair_of (bytes_form 32) flag_form
+  decided_form : IsForm (λ p. p.0 ++ flag_encoding p.1) (λ p. DigestFits p.0 × Unit {0}) decided_message_at
+  unfolding decided_message_at
+  decided_form = pair_of (bytes_form 32) flag_form
 
-done_form : IsForm (λ p. to_be_bytes w64 p.0 ++ entry_encoding p.1) (λ p. (p.0 < 2 ^ 62) × EntryFits p.1) done_at
-unfolding done_at
-done_form = pair_of slot_form entry_form
+  done_form : IsForm (λ p. to_be_bytes w64 p.0 ++ entry_encoding version p.1) (λ p. (p.0 < 2 ^ 62) × EntryFits version p.1) (done_at version)
+  unfolding done_at
+  done_form = pair_of slot_form (entry_form version)
 
-told_form : IsForm (λ p. key_encoding p.0 ++ state_encoding p.1) (λ p. KeyFits p.0 × StateFits p.1) told_message_at
-unfolding told_message_at
-told_form = pair_of key_form state_form
+  asked_place_form : (edition : Version) → IsForm (place_encoding edition) (AskedPlaceFits edition) (asked_place_at edition)
+  asked_place_form One = given_form 0
+  asked_place_form Two =
+      weaker_form (λ n. n ∷ []) (λ n. (n < 256) × (nat_lt n MOST_ACTIONS ≡ true)) (asked_place_at Two)
+      (tested_of byte_form (λ n. nat_lt n MOST_ACTIONS)) (λ n. n < MOST_ACTIONS)
+      (λ n h. ltb-true n MOST_ACTIONS h.1) (λ n h. (omega (arith, h), lt-ltb n MOST_ACTIONS h))
 
--- the kind and the body
-abbrev pub spelled : Message → List ℕ
-spelled m = kind_of m ∷ body_of m
+  ask_proof_form : IsForm (λ p. to_be_bytes w64 p.0 ++ place_encoding version p.1) (λ p. (p.0 < 2 ^ 62) × AskedPlaceFits version p.1) (ask_proof_at version)
+  unfolding ask_proof_at
+  ask_proof_form = pair_of slot_form (asked_place_form version)
 
--- a message that fits, and whose body isn't that of asking for a dummy, of no byte
-abbrev pub IsLong : Message → Type 0
-IsLong (message.Ask None) = ⊥
-IsLong m = MessageFits m
+  told_form : IsForm (λ p. key_encoding p.0 ++ state_encoding p.1) (λ p. KeyFits p.0 × StateFits p.1) told_message_at
+  unfolding told_message_at
+  told_form = pair_of key_form state_form
 
-pub message_takes : (kind : ℕ) (bytes : List ℕ) (m : Message) (rest : List ℕ) → IsBytes bytes
-    → message_at kind bytes ≡ Some (m, rest) → Splits (kind ∷ bytes) (spelled m) rest × IsLong m
-message_takes zero bytes m rest fits is = absurd cc
-message_takes (suc zero) bytes m rest fits is =
-    takes_part spelled IsLong message_at session_form message.Submit 1 (λ p. refl) (λ p h. h) bytes m rest fits is
-message_takes (suc (suc zero)) bytes m rest fits is =
-    takes_part spelled IsLong message_at propose_form propose_of 2 (λ p. refl) (λ p h. h) bytes m rest fits is
-message_takes (suc (suc (suc zero))) bytes m rest fits is =
-    takes_part spelled IsLong message_at step_form echo_of 3 (λ p. refl) (λ p h. h) bytes m rest fits is
-message_takes (suc (suc (suc (suc zero)))) bytes m rest fits is =
-    takes_part spelled IsLong message_at step_form confirm_of 4 (λ p. refl) (λ p h. h) bytes m rest fits is
-message_takes (suc (suc (suc (suc (suc zero))))) bytes m rest fits is =
-    takes_part spelled IsLong message_at claim_form change_from 5 (λ p. refl)
-    (λ p h. (h.0, (h.1.0, (h.1.1.0, h.1.1.1.1)))) bytes m rest fits is
-message_takes (suc (suc (suc (suc (suc (suc zero)))))) bytes m rest fits is =
-    takes_part spelled IsLong message_at voted_form voted_of 6 (λ p. refl) (λ p h. h.1.1) bytes m rest fits is
-message_takes (suc (suc (suc (suc (suc (suc (suc zero))))))) bytes m rest fits is =
-    takes_part spelled IsLong message_at decided_form decided_of 7 (λ p. refl) (λ p h. h.0) bytes m rest fits is
-message_takes (suc (suc (suc (suc (suc (suc (suc (suc zero)))))))) bytes m rest fits is =
-    takes_part spelled IsLong message_at slot_form message.Want 8 (λ p. refl) (λ p h. h) bytes m rest fits is
-message_takes (suc (suc (suc (suc (suc (suc (suc (suc (suc zero))))))))) bytes m rest fits is =
-    takes_part spelled IsLong message_at done_form done_of 9 (λ p. refl) (λ p h. h) bytes m rest fits is
-message_takes (suc (suc (suc (suc (suc (suc (suc (suc (suc (suc zero)))))))))) bytes m rest fits is =
-    takes_part spelled IsLong message_at key_form asked_of 10 (λ p. refl) (λ p h. h) bytes m rest fits is
-message_takes (suc (suc (suc (suc (suc (suc (suc (suc (suc (suc (suc zero))))))))))) bytes m rest fits is =
-    takes_part spelled IsLong message_at told_form told_message 11 (λ p. refl) (λ p h. h) bytes m rest fits is
-message_takes (suc (suc (suc (suc (suc (suc (suc (suc (suc (suc (suc (suc zero)))))))))))) bytes m rest fits is =
-    takes_part spelled IsLong message_at checkpoint_form message.Head 12 (λ p. refl) (λ p h. h) bytes m rest fits is
-message_takes (suc (suc (suc (suc (suc (suc (suc (suc (suc (suc (suc (suc (suc zero))))))))))))) bytes m rest fits is =
-    takes_part spelled IsLong message_at slot_form message.AskProof 13 (λ p. refl) (λ p h. h) bytes m rest fits is
-message_takes (suc (suc (suc (suc (suc (suc (suc (suc (suc (suc (suc (suc (suc (suc zero)))))))))))))) bytes m rest fits is =
-    takes_part spelled IsLong message_at proof_form message.Proof 14 (λ p. refl) (λ p h. h) bytes m rest fits is
-message_takes (suc (suc (suc (suc (suc (suc (suc (suc (suc (suc (suc (suc (suc (suc (suc kind))))))))))))))) bytes m rest fits is =
-    absurd cc
+  -- the kind and the body
+  abbrev pub spelled : Message → List ℕ
+  spelled m = kind_of m ∷ body_of version m
 
-pub message_again : (m : Message) (rest : List ℕ) → IsLong m → Kinded spelled message_at m rest
-message_again (message.Submit x) rest fits =
-    part_kinded spelled IsLong message_at session_form message.Submit 1 (omega arith) (λ p. refl) (λ bytes. refl) x rest
-    fits
-message_again (message.Propose slot view entry) rest fits =
-    part_kinded spelled IsLong message_at propose_form propose_of 2 (omega arith) (λ p. refl) (λ bytes. refl)
-    (slot, (view, entry)) rest fits
-message_again (message.Echo slot view digest) rest fits =
-    part_kinded spelled IsLong message_at step_form echo_of 3 (omega arith) (λ p. refl) (λ bytes. refl)
-    (slot, (view, digest)) rest fits
-message_again (message.Confirm slot view digest) rest fits =
-    part_kinded spelled IsLong message_at step_form confirm_of 4 (omega arith) (λ p. refl) (λ bytes. refl)
-    (slot, (view, digest)) rest fits
-message_again (message.Change slot view change) rest fits =
-    part_kinded spelled IsLong message_at claim_form change_from 5 (omega arith) (λ p. refl) (λ bytes. refl)
-    (slot, (view, change)) rest (fits.0, (fits.1.0, (fits.1.1.0, (fits.1.0, fits.1.1.1))))
-message_again (message.Voted vote asks x) rest fits =
-    part_kinded spelled IsLong message_at voted_form voted_of 6 (omega arith) (λ p. refl) (λ bytes. refl)
-    (vote, (asks, x)) rest (tt, (tt, fits))
-message_again (message.Decided digest accepted) rest fits =
-    part_kinded spelled IsLong message_at decided_form decided_of 7 (omega arith) (λ p. refl) (λ bytes. refl)
-    (digest, accepted) rest (fits, tt)
-message_again (message.Want slot) rest fits =
-    part_kinded spelled IsLong message_at slot_form message.Want 8 (omega arith) (λ p. refl) (λ bytes. refl) slot rest
-    fits
-message_again (message.Done slot entry) rest fits =
-    part_kinded spelled IsLong message_at done_form done_of 9 (omega arith) (λ p. refl) (λ bytes. refl) (slot, entry)
-    rest fits
-message_again (message.Ask (Some key)) rest fits =
-    part_kinded spelled IsLong message_at key_form asked_of 10 (omega arith) (λ p. refl) (λ bytes. refl) key rest fits
-message_again (message.Told key state) rest fits =
-    part_kinded spelled IsLong message_at told_form told_message 11 (omega arith) (λ p. refl) (λ bytes. refl) (key, state)
-    rest fits
-message_again (message.Head checkpoint) rest fits =
-    part_kinded spelled IsLong message_at checkpoint_form message.Head 12 (omega arith) (λ p. refl) (λ bytes. refl)
-    checkpoint rest fits
-message_again (message.AskProof slot) rest fits =
-    part_kinded spelled IsLong message_at slot_form message.AskProof 13 (omega arith) (λ p. refl) (λ bytes. refl) slot
-    rest fits
-message_again (message.Proof proof) rest fits =
-    part_kinded spelled IsLong message_at proof_form message.Proof 14 (omega arith) (λ p. refl) (λ bytes. refl) proof
-    rest fits
-message_again (message.Ask None) rest fits = absurd fits
+  -- a message that fits, and whose body isn't that of asking for a dummy, of no byte
+  abbrev pub IsLong : Message → Type 0
+  IsLong (message.Ask None) = ⊥
+  IsLong m = MessageFits version m
 
-pub message_form : IsForm spelled IsLong (kinds_at message_at)
-message_form = kinds_form spelled IsLong message_at message_takes message_again
+  pub message_takes : (kind : ℕ) (bytes : List ℕ) (m : Message) (rest : List ℕ) → IsBytes bytes
+      → message_at version kind bytes ≡ Some (m, rest) → Splits (kind ∷ bytes) (spelled m) rest × IsLong m
+  message_takes zero bytes m rest fits is = absurd cc
+  message_takes (suc zero) bytes m rest fits is =
+      takes_part spelled IsLong (message_at version) session_form message.Submit 1 (λ p. refl) (λ p h. h) bytes m rest fits is
+  message_takes (suc (suc zero)) bytes m rest fits is =
+      takes_part spelled IsLong (message_at version) propose_form propose_of 2 (λ p. refl) (λ p h. h) bytes m rest fits is
+  message_takes (suc (suc (suc zero))) bytes m rest fits is =
+      takes_part spelled IsLong (message_at version) step_form echo_of 3 (λ p. refl) (λ p h. h) bytes m rest fits is
+  message_takes (suc (suc (suc (suc zero)))) bytes m rest fits is =
+      takes_part spelled IsLong (message_at version) step_form confirm_of 4 (λ p. refl) (λ p h. h) bytes m rest fits is
+  message_takes (suc (suc (suc (suc (suc zero))))) bytes m rest fits is =
+      takes_part spelled IsLong (message_at version) claim_form change_from 5 (λ p. refl)
+      (λ p h. (h.0, (h.1.0, (h.1.1.0, h.1.1.1.1)))) bytes m rest fits is
+  message_takes (suc (suc (suc (suc (suc (suc zero)))))) bytes m rest fits is =
+      takes_part spelled IsLong (message_at version) voted_form voted_of 6 (λ p. refl) (λ p h. h.1.1) bytes m rest fits is
+  message_takes (suc (suc (suc (suc (suc (suc (suc zero))))))) bytes m rest fits is =
+      takes_part spelled IsLong (message_at version) decided_form decided_of 7 (λ p. refl) (λ p h. h.0) bytes m rest fits is
+  message_takes (suc (suc (suc (suc (suc (suc (suc (suc zero)))))))) bytes m rest fits is =
+      takes_part spelled IsLong (message_at version) slot_form message.Want 8 (λ p. refl) (λ p h. h) bytes m rest fits is
+  message_takes (suc (suc (suc (suc (suc (suc (suc (suc (suc zero))))))))) bytes m rest fits is =
+      takes_part spelled IsLong (message_at version) done_form done_of 9 (λ p. refl) (λ p h. h) bytes m rest fits is
+  message_takes (suc (suc (suc (suc (suc (suc (suc (suc (suc (suc zero)))))))))) bytes m rest fits is =
+      takes_part spelled IsLong (message_at version) key_form asked_of 10 (λ p. refl) (λ p h. h) bytes m rest fits is
+  message_takes (suc (suc (suc (suc (suc (suc (suc (suc (suc (suc (suc zero))))))))))) bytes m rest fits is =
+      takes_part spelled IsLong (message_at version) told_form told_message 11 (λ p. refl) (λ p h. h) bytes m rest fits is
+  message_takes (suc (suc (suc (suc (suc (suc (suc (suc (suc (suc (suc (suc zero)))))))))))) bytes m rest fits is =
+      takes_part spelled IsLong (message_at version) (checkpoint_form version) message.Head 12 (λ p. refl) (λ p h. h) bytes m rest fits is
+  message_takes (suc (suc (suc (suc (suc (suc (suc (suc (suc (suc (suc (suc (suc zero))))))))))))) bytes m rest fits is =
+      takes_part spelled IsLong (message_at version) ask_proof_form ask_proof_of 13 (λ p. refl) (λ p h. h) bytes m rest fits is
+  message_takes (suc (suc (suc (suc (suc (suc (suc (suc (suc (suc (suc (suc (suc (suc zero)))))))))))))) bytes m rest fits is =
+      takes_part spelled IsLong (message_at version) (proof_form version) message.Proof 14 (λ p. refl) (λ p h. h) bytes m rest fits is
+  message_takes (suc (suc (suc (suc (suc (suc (suc (suc (suc (suc (suc (suc (suc (suc (suc kind))))))))))))))) bytes m rest fits is =
+      absurd cc
+
+  pub message_again : (m : Message) (rest : List ℕ) → IsLong m → Kinded spelled (message_at version) m rest
+  message_again (message.Submit x) rest fits =
+      part_kinded spelled IsLong (message_at version) session_form message.Submit 1 (omega arith) (λ p. refl) (λ bytes. refl) x rest
+      fits
+  message_again (message.Propose slot view entry) rest fits =
+      part_kinded spelled IsLong (message_at version) propose_form propose_of 2 (omega arith) (λ p. refl) (λ bytes. refl)
+      (slot, (view, entry)) rest fits
+  message_again (message.Echo slot view digest) rest fits =
+      part_kinded spelled IsLong (message_at version) step_form echo_of 3 (omega arith) (λ p. refl) (λ bytes. refl)
+      (slot, (view, digest)) rest fits
+  message_again (message.Confirm slot view digest) rest fits =
+      part_kinded spelled IsLong (message_at version) step_form confirm_of 4 (omega arith) (λ p. refl) (λ bytes. refl)
+      (slot, (view, digest)) rest fits
+  message_again (message.Change slot view change) rest fits =
+      part_kinded spelled IsLong (message_at version) claim_form change_from 5 (omega arith) (λ p. refl) (λ bytes. refl)
+      (slot, (view, change)) rest (fits.0, (fits.1.0, (fits.1.1.0, (fits.1.0, fits.1.1.1))))
+  message_again (message.Voted vote asks x) rest fits =
+      part_kinded spelled IsLong (message_at version) voted_form voted_of 6 (omega arith) (λ p. refl) (λ bytes. refl)
+      (vote, (asks, x)) rest (tt, (tt, fits))
+  message_again (message.Decided digest accepted) rest fits =
+      part_kinded spelled IsLong (message_at version) decided_form decided_of 7 (omega arith) (λ p. refl) (λ bytes. refl)
+      (digest, accepted) rest (fits, tt)
+  message_again (message.Want slot) rest fits =
+      part_kinded spelled IsLong (message_at version) slot_form message.Want 8 (omega arith) (λ p. refl) (λ bytes. refl) slot rest
+      fits
+  message_again (message.Done slot entry) rest fits =
+      part_kinded spelled IsLong (message_at version) done_form done_of 9 (omega arith) (λ p. refl) (λ bytes. refl) (slot, entry)
+      rest fits
+  message_again (message.Ask (Some key)) rest fits =
+      part_kinded spelled IsLong (message_at version) key_form asked_of 10 (omega arith) (λ p. refl) (λ bytes. refl) key rest fits
+  message_again (message.Told key state) rest fits =
+      part_kinded spelled IsLong (message_at version) told_form told_message 11 (omega arith) (λ p. refl) (λ bytes. refl) (key, state)
+      rest fits
+  message_again (message.Head checkpoint) rest fits =
+      part_kinded spelled IsLong (message_at version) (checkpoint_form version) message.Head 12 (omega arith) (λ p. refl) (λ bytes. refl)
+      checkpoint rest fits
+  message_again (message.AskProof slot place) rest fits =
+      part_kinded spelled IsLong (message_at version) ask_proof_form ask_proof_of 13 (omega arith) (λ p. refl) (λ bytes. refl)
+      (slot, place) rest fits
+  message_again (message.Proof proof) rest fits =
+      part_kinded spelled IsLong (message_at version) (proof_form version) message.Proof 14 (omega arith) (λ p. refl) (λ bytes. refl) proof
+      rest fits
+  message_again (message.Ask None) rest fits = absurd fits
+
+  pub message_form : IsForm spelled IsLong (kinds_at (message_at version))
+  message_form = kinds_form spelled IsLong (message_at version) message_takes message_again

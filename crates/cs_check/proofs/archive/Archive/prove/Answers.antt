@@ -2,7 +2,9 @@ use Rattle.std.proofs.Common.{rules, ◌≡◌, ◌*◌, ◌<◌, ◌≤◌, tru
 use Rattle.std.specs.Result.{is_ok}
 use Rattle.std.specs.List.{AllByRecursion}
 use Rattle.std.proofs.lemmas.Bool.{cases_lt, true≢false}
+use Rattle.cs_base.specs.declared.version.Version.TheVariants.{One}
 use Rattle.cs_tx_value.specs.Object.{DigestFits}
+use Rattle.cs_tx_types.specs.declared.checkpoint.Checkpoint.{Checkpoint}
 use Rattle.cs_check_rules.specs.Chain.{cut_slot, kept_of}
 use Rattle.cs_check.specs.Archives.{Archived}
 use Rattle.cs_check.proofs.ArchiveCovered.{proof_fits, proof_is}
@@ -27,6 +29,7 @@ pub returns-in-Ok-clause-fits : goal.returns-in-Ok-clause-fits
 returns-in-Ok-clause-fits c = λ small.
     let whole : c.self.inside.whole ≡ true = search rules in
     let of = c.self.invariant whole in
-    proof_fits of.log c.args.slot c.in-Ok.proof of.in_place small (c.in-Ok.ensures.proof of.log of.kept_is)
-    (c.in-Ok.ensures.shown of.log of.kept_is) c.checkpoint_fits.ensures
+    let is = c.in-Ok.ensures.proof of.log of.kept_is in
+    proof_fits of.log c.args.slot c.in-Ok.proof of.in_place small is
+    (c.in-Ok.ensures.shown of.log of.kept_is) (c.checkpoint_fits.ensures One (ap (λ (k : Checkpoint). k.leaves) is.checkpoint))
     (subst (AllByRecursion DigestFits) c.as_slice.ensures c.digests_fit.ensures)
