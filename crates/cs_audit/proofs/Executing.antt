@@ -8,8 +8,8 @@ use Rattle.cs_tx_types.specs.declared.transaction.Tx.{Tx}
 use Rattle.cs_tx_types.specs.declared.session.Session.{Session}
 use Rattle.cs_tx_types.specs.declared.vote.Vote.{Vote}
 use Rattle.cs_tx_types.specs.declared.effect.Effect.{Effect}
-use Rattle.cs_tx_types.specs.declared.entry.Entry.{Entry}
-use Rattle.cs_tx_types.specs.declared.entry.Entry.TheVariants.{Prepare, Decide}
+use Rattle.cs_tx_types.specs.declared.action.Action.{Action}
+use Rattle.cs_tx_types.specs.declared.action.Action.TheVariants.{Prepare, Decide}
 use Rattle.cs_base.specs.declared.key.Key as ours
 use Rattle.cs_tx.specs.Sessions.{ledger_session, key_seen}
 use Rattle.cs_tx.specs.Uses.{anchor_of}
@@ -71,7 +71,7 @@ module _ (s : Stand) (placed : IsPlaced s) (genesis : List Object) (approves : T
       (subst (λ (t : Shard.Table). AreKnown after t) (sym shows)
       (exec_known setup.rules s.shard (seen s.table) (keys_in s.table.rows) e old_known))
 
-  pub executes : (entry : Entry) (new : Stored) (effect : Effect) → Setup.is_fit setup s.shard (session_in entry) ≡ true
+  pub executes : (entry : Action) (new : Stored) (effect : Effect) → Setup.is_fit setup s.shard (session_in entry) ≡ true
       → AreKnown (keys_in s.table.rows) (seen s.table) → AreKnown (keys_in new.rows) (seen new)
       → ComesTo (acted s.table (entry_seen approves entry)) s.table new (effect_of effect)
       → StandExecutes setup entry s (record s { table = new }) effect

@@ -96,7 +96,7 @@ module _ (approves : Tx → Bool) (config : Config) (shard : ℕ) (log : Log) (f
 
   pub goes_on : (slot : ℕ) (s new : Stand) (digests : List Bytes) (votes : KeptVotes) (leaf : Leaf) (d : Bytes) (more : List Bytes) (later : KeptVotes) (on : On slot s digests votes)
       → slot < length log.leaves → leaf ≡ get_or log.leaves slot leaf → ((genesis : List Object) → TellsLeaf (deployed_setup s.config genesis approves) on.executed log.heads leaf s new None)
-      → d ≡ digest_of_leaf leaf → more ≡ digests ++ d ∷ [] → later ≡ votes_noted shard leaf.entry leaf.result d votes → On (slot + 1) new more later
+      → d ≡ digest_of_leaf leaf → more ≡ digests ++ d ∷ [] → later ≡ votes_noted shard leaf.action leaf.result d votes → On (slot + 1) new more later
   goes_on slot s new digests votes leaf d more later on less is tells named pushed noted_is =
       let follows = (tells []).1 in
       let left : drop slot log.leaves ≡ leaf ∷ drop (slot + 1) log.leaves = left-at log.leaves slot leaf less is in
@@ -108,7 +108,7 @@ module _ (approves : Tx → Bool) (config : Config) (shard : ℕ) (log : Log) (f
         kept_is = follows.kept_is;
         slots = length-append on.executed.leaves _ ∙ ap (λ n. n + 1) on.slots;
         digests_are = pushed ∙ (λ i. on.digests_are i ++ named i ∷ []) ∙ sym (ap (map digest_of_leaf) (take_more log.leaves slot leaf less ∙ ap (λ x. take slot log.leaves ++ x ∷ []) (sym is)) ∙ map-append digest_of_leaf (take slot log.leaves) (leaf ∷ []));
-        votes_are = ap (log_votes shard (drop (slot + 1) log.leaves)) (noted_is ∙ ap (λ x. votes_noted shard leaf.entry leaf.result x votes) named)
+        votes_are = ap (log_votes shard (drop (slot + 1) log.leaves)) (noted_is ∙ ap (λ x. votes_noted shard leaf.action leaf.result x votes) named)
             ∙ sym (ap (λ xs. log_votes shard xs votes) left) ∙ on.votes_are;
         told = λ genesis.
             let here = none-here genesis slot s new digests votes leaf on (tells genesis) in

@@ -57,10 +57,10 @@ module _ (setup : Setup) (log : Log) (heads : List Bytes) (leaf : Leaf) (s : Sta
   slot = leaf.slot == length log.leaves
 
   abbrev form : Bool
-  form = is_fit setup s.shard (session_in leaf.entry)
+  form = is_fit setup s.shard (session_in leaf.action)
 
   abbrev judge : Bool
-  judge = is_judged setup leaf.entry
+  judge = is_judged setup leaf.action
 
   abbrev result : Bool
   result = is_result setup s.shard (stand_of log s) leaf
@@ -91,7 +91,7 @@ module _ (setup : Setup) (log : Log) (heads : List Bytes) (leaf : Leaf) (s : Sta
 
   -- ---- what was executed
 
-  module _ (mid : Stand) (effect : Effect) (ran : StandExecutes setup leaf.entry s mid effect) where
+  module _ (mid : Stand) (effect : Effect) (ran : StandExecutes setup leaf.action s mid effect) where
     pub result_is : leaf.result ≡ effect → result ≡ true
     result_is e =
         ap (λ told. same_effect (effect_of told) (rules.outcome_of setup s.shard (stand_of log s).table leaf).effect) e

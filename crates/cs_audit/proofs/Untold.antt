@@ -7,8 +7,8 @@ use Rattle.std.proofs.Math.ListN.{drop_of_length-le}
 use Rattle.std.proofs.lemmas.List.{take_more, length-take-le}
 use Rattle.std.proofs.lemmas.Bool.{and_parts}
 use Rattle.cs_base.specs.Lists.{IsIn}
-use Rattle.cs_tx_types.specs.declared.entry.Entry.{Entry}
-use Rattle.cs_tx_types.specs.declared.entry.Entry.TheVariants.{Prepare, Decide}
+use Rattle.cs_tx_types.specs.declared.action.Action.{Action}
+use Rattle.cs_tx_types.specs.declared.action.Action.TheVariants.{Prepare, Decide}
 use Rattle.cs_tx_types.specs.declared.leaf.Leaf.{Leaf}
 use Rattle.cs_tx_types.specs.declared.session.Session.{Session}
 use Rattle.cs_tx_types.specs.declared.transaction.Tx.{Tx}
@@ -45,20 +45,20 @@ Good approves tx = (is_well_formed (seen_tx approves tx) && (seen_tx approves tx
 
 module _ (setup : Setup) where
   leaf-formed : (shard : ℕ) (heads : List Bytes) (stand : rules.Stand) (leaf : Leaf) → broken_by setup shard heads stand leaf ≡ None
-      → (is_fit setup shard (session_in leaf.entry) ≡ true) × (is_judged setup leaf.entry ≡ true)
+      → (is_fit setup shard (session_in leaf.action) ≡ true) × (is_judged setup leaf.action ≡ true)
   leaf-formed shard heads stand leaf none =
       let head = is_head heads (made_last (rules.after_leaf setup shard stand leaf).log) in
       let after_result = if not head then Some rule.Head else None in
       let after_judge = if not (is_result setup shard stand leaf) then Some rule.Result else after_result in
-      let after_form = if not (is_judged setup leaf.entry) then Some rule.Judge else after_judge in
-      let after_slot = if not (is_fit setup shard (session_in leaf.entry)) then Some rule.Form else after_form in
+      let after_form = if not (is_judged setup leaf.action) then Some rule.Judge else after_judge in
+      let after_slot = if not (is_fit setup shard (session_in leaf.action)) then Some rule.Form else after_form in
       let slot = passed (leaf.slot == length stand.log.leaves) rule.Slot after_slot none in
-      let form = passed (is_fit setup shard (session_in leaf.entry)) rule.Form after_form slot.1 in
-      let judge = passed (is_judged setup leaf.entry) rule.Judge after_judge form.1 in
+      let form = passed (is_fit setup shard (session_in leaf.action)) rule.Form after_form slot.1 in
+      let judge = passed (is_judged setup leaf.action) rule.Judge after_judge form.1 in
       (form.0, judge.0)
 
   leaves-formed : (shard : ℕ) (heads : List Bytes) (stand : rules.Stand) (leaves : List Leaf) → leaves_fault setup shard heads stand leaves ≡ None → (leaf : Leaf) → IsIn leaf leaves
-      → (is_fit setup shard (session_in leaf.entry) ≡ true) × (is_judged setup leaf.entry ≡ true)
+      → (is_fit setup shard (session_in leaf.action) ≡ true) × (is_judged setup leaf.action ≡ true)
   leaves-formed shard heads stand [] none leaf among = absurd among
   leaves-formed shard heads stand (first ∷ leaves) none leaf among =
       let rest = leaves_fault setup shard heads (rules.after_leaf setup shard stand first) leaves in
@@ -66,13 +66,13 @@ module _ (setup : Setup) where
       let both = neither_there here rest none in
       elim among [
         | inl same ↦
-            subst (λ (l : Leaf). (is_fit setup shard (session_in l.entry) ≡ true) × (is_judged setup l.entry ≡ true)) (sym same)
+            subst (λ (l : Leaf). (is_fit setup shard (session_in l.action) ≡ true) × (is_judged setup l.action ≡ true)) (sym same)
             (leaf-formed shard heads stand first (map_none (fault_at shard (length stand.log.leaves)) (broken_by setup shard heads stand first) both.0))
         | inr later ↦ leaves-formed shard heads (rules.after_leaf setup shard stand first) leaves both.1 leaf later
       ]
 
   logs-formed : (shard : ℕ) (logs : List Log) → logs_fault setup shard logs ≡ None → (log : Log) (leaf : Leaf) → IsIn log logs → IsIn leaf log.leaves
-      → (at : ℕ) × (is_fit setup at (session_in leaf.entry) ≡ true) × (is_judged setup leaf.entry ≡ true)
+      → (at : ℕ) × (is_fit setup at (session_in leaf.action) ≡ true) × (is_judged setup leaf.action ≡ true)
   logs-formed shard [] none log leaf among told = absurd among
   logs-formed shard (first ∷ logs) none log leaf among told =
       let both = neither_there (log_fault setup shard first) (logs_fault setup (shard + 1) logs) none in
@@ -97,7 +97,7 @@ module _ (approves : Tx → Bool) (dump : Dump) where
   both-true true b c h k = k
   both-true false b c h k = h
 
-  prepared-good : (entry : Entry) (x : Session) → IsIn x (prepared_session entry) → (at : ℕ) → is_fit setup at (session_in entry) ≡ true → is_judged setup entry ≡ true → Good approves x.tx
+  prepared-good : (entry : Action) (x : Session) → IsIn x (prepared_session entry) → (at : ℕ) → is_fit setup at (session_in entry) ≡ true → is_judged setup entry ≡ true → Good approves x.tx
   prepared-good (Prepare y) x (inl same) at fit judged =
       subst (λ (z : Session). Good approves z.tx) (sym same)
       (both-true (is_well_formed (ledger_session approves y).transaction) (Seen.has_its_dummies setup.rules (ledger_session approves y)) (ledger_session approves y).transaction.approved
@@ -108,10 +108,10 @@ module _ (approves : Tx → Bool) (dump : Dump) where
   pub good : logs_fault setup 0 dump.logs ≡ None → (x : Session) → IsIn x sessions → Good approves x.tx
   good none x among =
       let of = of_filter (all_logs_commit setup dump.logs) x (sessions_in_logs dump.logs) among in
-      let log = of_flat (λ (log : Log). flat_map (λ (leaf : Leaf). prepared_session leaf.entry) log.leaves) x dump.logs of.0 in
-      let leaf = of_flat (λ (leaf : Leaf). prepared_session leaf.entry) x log.0.leaves log.2 in
+      let log = of_flat (λ (log : Log). flat_map (λ (leaf : Leaf). prepared_session leaf.action) log.leaves) x dump.logs of.0 in
+      let leaf = of_flat (λ (leaf : Leaf). prepared_session leaf.action) x log.0.leaves log.2 in
       let formed = logs-formed setup 0 dump.logs none log.0 leaf.0 log.1 leaf.1 in
-      prepared-good leaf.0.entry x leaf.2 formed.0 formed.1 formed.2
+      prepared-good leaf.0.action x leaf.2 formed.0 formed.1 formed.2
 
   -- ---- one digest more
 

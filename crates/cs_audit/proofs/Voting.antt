@@ -7,8 +7,8 @@ use Rattle.cs_tx_value.specs.declared.object.Object.{Object}
 use Rattle.cs_tx_types.specs.declared.effect.Effect.{Effect}
 use Rattle.cs_tx_types.specs.declared.effect.Effect.TheVariants as effect
 use Rattle.cs_tx_types.specs.declared.vote.Vote.TheVariants as vote
-use Rattle.cs_tx_types.specs.declared.entry.Entry.{Entry}
-use Rattle.cs_tx_types.specs.declared.entry.Entry.TheVariants.{Prepare, Decide}
+use Rattle.cs_tx_types.specs.declared.action.Action.{Action}
+use Rattle.cs_tx_types.specs.declared.action.Action.TheVariants.{Prepare, Decide}
 use Rattle.cs_tx_types.specs.declared.leaf.Leaf.{Leaf}
 use Rattle.cs_tx_types.specs.declared.transaction.Tx.{Tx}
 use Rattle.cs_tx.specs.Digest.{digest_of_session}
@@ -74,7 +74,7 @@ module _ (config : Config) (objects : List Object) (approves : Tx → Bool) (way
   is votes = is_kept (kept_of way votes) q n
 
   abbrev votes_so : Leaf → Bool
-  votes_so leaf = prepares setup q leaf.entry && is_vote way (effect_of leaf.result)
+  votes_so leaf = prepares setup q leaf.action && is_vote way (effect_of leaf.result)
 
   -- a leaf that is no such vote
   other : (s : ℕ) (b : Bool) (votes : KeptVotes) → is votes ≡ (is votes || ((n == s) && (b && false)))
@@ -98,7 +98,7 @@ module _ (config : Config) (objects : List Object) (approves : Tx → Bool) (way
   such k a true = refl
   such k a false = refl
 
-  one-noted : (s : ℕ) (entry : Entry) (result : Effect) (votes : KeptVotes) → is (votes_noted s entry result (digest_of_session (session_in entry)) votes)
+  one-noted : (s : ℕ) (entry : Action) (result : Effect) (votes : KeptVotes) → is (votes_noted s entry result (digest_of_session (session_in entry)) votes)
       ≡ (is votes || ((n == s) && (prepares setup q entry && is_vote way (effect_of result))))
   one-noted s (Decide v x) result votes = decided s (is_vote way (effect_of result)) votes
   one-noted s (Prepare x) (effect.Voted vote.Commit) votes = at way
@@ -143,8 +143,8 @@ module _ (config : Config) (objects : List Object) (approves : Tx → Bool) (way
       none false true = refl
       none false false = refl
   of-leaves s (leaf ∷ leaves) votes =
-      of-leaves s leaves (votes_noted s leaf.entry leaf.result (digest_of_leaf leaf) votes)
-      ∙ ap (λ b. b || ((n == s) && list_any votes_so leaves)) (one-noted s leaf.entry leaf.result votes)
+      of-leaves s leaves (votes_noted s leaf.action leaf.result (digest_of_leaf leaf) votes)
+      ∙ ap (λ b. b || ((n == s) && list_any votes_so leaves)) (one-noted s leaf.action leaf.result votes)
       ∙ spread (is votes) (n == s) (votes_so leaf) (list_any votes_so leaves)
 
   -- ---- logs

@@ -2,8 +2,8 @@
 use Rattle.std.specs.Prelude.{◌≡◌, ℕ, Bool, true, false, not, ◌&&◌, bytes_eq, if◌then◌else◌, List, [], ◌∷◌, ◌++◌, find, slice_get, option_map, Option, Some, None, IfSome, IsSome}
 use Rattle.std.specs.Map.{lookup}
 use Rattle.std.specs.Option.{option_and_then}
-use Rattle.cs_tx_types.specs.declared.entry.Entry.{Entry}
-use Rattle.cs_tx_types.specs.declared.entry.Entry.TheVariants.{Prepare, Decide}
+use Rattle.cs_tx_types.specs.declared.action.Action.{Action}
+use Rattle.cs_tx_types.specs.declared.action.Action.TheVariants.{Prepare, Decide}
 use Rattle.cs_tx_types.specs.declared.session.Session.{Session}
 use Rattle.cs_tx_types.specs.declared.transaction.Tx.{Tx}
 use Rattle.cs_tx.specs.Digest.{digest_of_tx}
@@ -17,7 +17,7 @@ use Rattle.cs_audit.specs.Ledgers.{ShowsLedger, has_room_for, seen_tx}
 
 -- the transaction of the leaf of a slot, of a shard
 abbrev pub tx_in : Log → ℕ → Option Tx
-tx_in log slot = option_map (λ leaf. (session_in leaf.entry).tx) (slice_get log.leaves slot)
+tx_in log slot = option_map (λ leaf. (session_in leaf.action).tx) (slice_get log.leaves slot)
 
 abbrev pub tx_in_logs : List Log → ℕ × ℕ → Option Tx
 tx_in_logs logs place = option_and_then (λ log. tx_in log place.1) (slice_get logs place.0)
@@ -31,7 +31,7 @@ abbrev pub first_tx : Bytes → List Session → Option Tx
 first_tx d sessions = option_map (λ x. x.tx) (find (λ x. bytes_eq d (digest_of_tx x.tx)) sessions)
 
 -- a Prepare of a session on which every concerned log has a vote commit
-abbrev pub commits : Setup → List Log → Entry → Bool
+abbrev pub commits : Setup → List Log → Action → Bool
 commits setup logs (Prepare x) = all_logs_commit setup logs x
 commits setup logs (Decide vote x) = false
 

@@ -4,9 +4,9 @@ use Rattle.std.specs.List.{list_any}
 use Rattle.cs_tx_types.specs.declared.effect.Effect.{Effect}
 use Rattle.cs_tx_types.specs.declared.effect.Effect.TheVariants as effect
 use Rattle.cs_tx_types.specs.declared.vote.Vote.TheVariants as vote
-use Rattle.cs_tx_types.specs.declared.entry.Entry.{Entry}
+use Rattle.cs_tx_types.specs.declared.action.Action.{Action}
 use Rattle.cs_tx_types.specs.declared.leaf.Leaf.{Leaf}
-use Rattle.cs_tx_types.specs.declared.entry.Entry.TheVariants.{Prepare, Decide}
+use Rattle.cs_tx_types.specs.declared.action.Action.TheVariants.{Prepare, Decide}
 use Rattle.cs_tx.specs.Digest.{digest_of_session}
 use Rattle.cs_ledger.specs.Ledger.{Bytes}
 use Rattle.cs_ledger.specs.Table.{Commit, Abort}
@@ -40,18 +40,18 @@ votes_with shard d effect.Aborted votes = votes
 votes_with shard d effect.Skipped votes = votes
 votes_with shard d effect.Void votes = votes
 
-abbrev pub votes_noted : ℕ → Entry → Effect → Bytes → KeptVotes → KeptVotes
+abbrev pub votes_noted : ℕ → Action → Effect → Bytes → KeptVotes → KeptVotes
 votes_noted shard (Prepare x) result d votes = votes_with shard d result votes
 votes_noted shard (Decide vote x) result d votes = votes
 
 abbrev pub digest_of_leaf : Leaf → Bytes
-digest_of_leaf leaf = digest_of_session (session_in leaf.entry)
+digest_of_leaf leaf = digest_of_session (session_in leaf.action)
 
 -- with those of one log
 abbrev pub log_votes : ℕ → List Leaf → KeptVotes → KeptVotes
 log_votes shard [] votes = votes
 log_votes shard (leaf ∷ leaves) votes =
-    log_votes shard leaves (votes_noted shard leaf.entry leaf.result (digest_of_leaf leaf) votes)
+    log_votes shard leaves (votes_noted shard leaf.action leaf.result (digest_of_leaf leaf) votes)
 
 -- with those of the logs of shards, the first of which has this number
 abbrev pub logs_votes : ℕ → List Log → KeptVotes → KeptVotes

@@ -2,8 +2,8 @@
 use Rattle.std.specs.Prelude.{◌≡◌, Bool, List, Option, Some, None}
 use Rattle.cs_tx.specs.Votes.{vote_of}
 use Rattle.cs_tx_types.specs.declared.effect.Effect.{Effect}
-use Rattle.cs_tx_types.specs.declared.entry.Entry.{Entry}
-use Rattle.cs_tx_types.specs.declared.entry.Entry.TheVariants.{Prepare, Decide}
+use Rattle.cs_tx_types.specs.declared.action.Action.{Action}
+use Rattle.cs_tx_types.specs.declared.action.Action.TheVariants.{Prepare, Decide}
 use Rattle.cs_tx_types.specs.declared.leaf.Leaf.{Leaf}
 use Rattle.cs_tx_types.specs.declared.transaction.Tx.{Tx}
 use Rattle.cs_tx.specs.Sessions as seen
@@ -36,7 +36,7 @@ pub record IsPlaced (s : Stand) : Type 0 where
 -- ---- an entry
 
 -- as the ledger sees it, where these transactions are approved
-abbrev pub entry_seen : (Tx → Bool) → Entry → ledger.Entry
+abbrev pub entry_seen : (Tx → Bool) → Action → ledger.Entry
 entry_seen approves (Prepare x) = ledger.Prepare (seen.ledger_session approves x)
 entry_seen approves (Decide vote x) = ledger.Decide (seen.ledger_session approves x) (vote_of vote)
 
@@ -46,11 +46,11 @@ acted table entry =
     ledger.act (rules_in table.shards) table.shard (shown table) entry (anchor_in table (ledger.session_of entry))
 
 -- what executing it comes to
-abbrev pub stand_outcome : Setup → Stand → Entry → ledger.Outcome
+abbrev pub stand_outcome : Setup → Stand → Action → ledger.Outcome
 stand_outcome setup s entry = ledger.exec setup.rules s.shard (shown s.table) (entry_of setup entry)
 
 -- it was executed, and its effect was this
-pub record StandExecutes (setup : Setup) (entry : Entry) (old new : Stand) (effect : Effect) : Type 0 where
+pub record StandExecutes (setup : Setup) (entry : Action) (old new : Stand) (effect : Effect) : Type 0 where
   pub effect_is : effect_of effect ≡ (stand_outcome setup old entry).effect
   pub table_is : shown new.table ≡ (stand_outcome setup old entry).table
   pub keys_are : keys_in new.table.rows

@@ -4,6 +4,7 @@ ghost use Rattle.std.specs.List.{All, flat_map};
 ghost use Rattle.cs_tx_value.specs.declared.object.Object.{Object as AnyObject};
 ghost use Rattle.cs_tx_types.specs.declared.session.Session.{Session as AnySession};
 ghost use Rattle.cs_tx_types.specs.declared.transaction.Tx.{Tx as AnyTx};
+ghost use Rattle.cs_base.specs.declared.version.Version.TheVariants.{One};
 ghost use Rattle.cs_tx_types.specs.Log.{LeafFits};
 ghost use Rattle.cs_tx_types.specs.Transaction.{TxFits};
 ghost use Rattle.cs_ledger.specs.Ledger.{Ledger as Plain};
@@ -26,7 +27,7 @@ use crate::votes::Votes;
 use cs_audit_dump::{Dump, Log};
 use cs_audit_rules::{Fault, Rule};
 use cs_base::{Config, Key, Memory};
-use cs_tx::{Digest, Entry, Leaf, Object, Tx, concerned, tx_digest};
+use cs_tx::{Action, Digest, Leaf, Object, Tx, concerned, tx_digest};
 use indexmap::IndexMap;
 use std::alloc::Global;
 
@@ -52,18 +53,18 @@ fn commits(
     leaf: &Leaf,
     digest: Digest,
 ) -> Result<bool, Memory>
-    requires fits { LeafFits leaf.now }
+    requires fits { LeafFits One leaf.now }
     requires named { digest ≡ digest_of_leaf leaf.now }
     ensures { (objects : List AnyObject) (approves : AnyTx → Bool) (logs : List AnyLog) →
         let setup = deployed_setup config.now objects approves in KeepsVotes setup logs votes.now →
-        IfOk result (λ yes. yes ≡ commits setup logs leaf.now.entry) }
+        IfOk result (λ yes. yes ≡ commits setup logs leaf.now.action) }
 {
-    match &leaf.entry {
-        Entry::Prepare(session) => {
+    match &leaf.action {
+        Action::Prepare(session) => {
             let shards = concerned(alloc, session, config)?;
             Ok(votes.all_commit(shards.as_slice(), digest))
         }
-        Entry::Decide(..) => Ok(false),
+        Action::Decide(..) => Ok(false),
     }
 }
 
@@ -93,18 +94,18 @@ fn add_leaf(
     leaf: &Leaf,
     digest: Digest,
 ) -> Result<(), Memory>
-    requires fits { LeafFits leaf.now }
+    requires fits { LeafFits One leaf.now }
     requires named { digest ≡ digest_of_leaf leaf.now }
     ensures { (objects : List AnyObject) (approves : AnyTx → Bool) (logs : List AnyLog)
         (sessions : List AnySession) → let setup = deployed_setup config.now objects approves in
-        KeepsVotes setup logs votes.now → tx_in_logs logs place ≡ Some (session_in leaf.now.entry).tx →
+        KeepsVotes setup logs votes.now → tx_in_logs logs place ≡ Some (session_in leaf.now.action).tx →
         FindsTransactions logs found.old.entries sessions [] → OnOk result (FindsTransactions logs found.new.entries
-        (sessions ++ filter (all_logs_commit setup logs) (prepared_session leaf.now.entry)) []) }
+        (sessions ++ filter (all_logs_commit setup logs) (prepared_session leaf.now.action)) []) }
 {
     if !commits(alloc, config, votes, leaf, digest)? {
         return Ok(());
     }
-    add(alloc, found, &leaf.entry.session().tx, place)?;
+    add(alloc, found, &leaf.action.session().tx, place)?;
     Ok(())
 }
 
@@ -118,14 +119,14 @@ fn add_log(
     log: &Log,
     digests: &[Digest],
 ) -> Result<(), Memory>
-    requires fits { All LeafFits log.now.leaves }
+    requires fits { All (LeafFits One) log.now.leaves }
     requires named { digests.now ≡ digests_in_log log.now }
     ensures { (objects : List AnyObject) (approves : AnyTx → Bool) (logs : List AnyLog)
         (sessions : List AnySession) → let setup = deployed_setup config.now objects approves in
         KeepsVotes setup logs votes.now → slice_get logs shard ≡ Some log.now →
         FindsTransactions logs found.old.entries sessions [] → OnOk result (FindsTransactions logs found.new.entries
         (sessions ++ filter (all_logs_commit setup logs)
-        (flat_map (λ leaf. prepared_session leaf.entry) log.now.leaves)) []) }
+        (flat_map (λ leaf. prepared_session leaf.action) log.now.leaves)) []) }
 {
     let leaves = log.leaves.as_slice();
     for slot in 0..leaves.len() {
@@ -173,7 +174,7 @@ fn tx_at(logs: &[Log], place: (usize, usize)) -> Option<&Tx>
         None => return None,
     };
     match log.leaves.as_slice().get(place.1) {
-        Some(leaf) => Some(&leaf.entry.session().tx),
+        Some(leaf) => Some(&leaf.action.session().tx),
         None => None,
     }
 }

@@ -1,6 +1,7 @@
 //! The logs of all shards, executed one after the other.
 ghost use Rattle.std.specs.Prelude.{◌≡◌, IfOk};
 ghost use Rattle.std.specs.List.{All};
+ghost use Rattle.cs_base.specs.declared.version.Version.TheVariants.{One};
 ghost use Rattle.cs_tx_types.specs.Log.{LeafFits};
 ghost use Rattle.cs_check_rules.specs.Chain.{empty_log, kept_of};
 ghost use Rattle.cs_node_pool.specs.Deployed.{AtAnyGenesis, deployed_setup};
@@ -52,7 +53,7 @@ fn execute_log<J: Judge>(
     judge: &J,
     votes: &mut Votes,
 ) -> Result<Result<Sequence<Digest>, Fault>, Memory>
-    requires fits { All LeafFits log.now.leaves }
+    requires fits { All (LeafFits One) log.now.leaves }
     requires placed { IsPlaced stand.old }
     requires shard { stand.old.shard ≡ shard }
     requires chain { stand.old.chain.kept ≡ kept_of (empty_log shard) }
@@ -61,12 +62,12 @@ fn execute_log<J: Judge>(
 {
     let mut digests = Sequence::new(alloc);
     for (slot, leaf) in log.leaves.as_slice().iter().enumerate() {
-        let digest = session_digest(alloc, leaf.entry.session())?;
+        let digest = session_digest(alloc, leaf.action.session())?;
         match stand.take(alloc, judge, log.heads.as_slice(), leaf, &digest)? {
             Some(rule) => return Ok(Err(fault(rule, shard, slot))),
             None => {}
         }
-        votes.note(shard, &leaf.entry, leaf.result, digest)?;
+        votes.note(shard, &leaf.action, leaf.result, digest)?;
         digests.push(digest)?;
     }
     Ok(Ok(digests))

@@ -3,8 +3,9 @@ ghost use Rattle.std.specs.Prelude.{◌≡◌, List, Bool, true, IfOk, OnOk, IsS
 ghost use Rattle.std.specs.List.{All};
 ghost use Rattle.cs_base.specs.declared.config.Config.{Config as AnyConfig};
 ghost use Rattle.cs_tx_types.specs.declared.transaction.Tx.{Tx as AnyTx};
+ghost use Rattle.cs_base.specs.declared.version.Version.TheVariants.{One};
 ghost use Rattle.cs_tx_types.specs.Log.{LeafFits};
-ghost use Rattle.cs_tx_types.specs.Session.{EntryFits, session_in};
+ghost use Rattle.cs_tx_types.specs.Session.{ActionFits, session_in};
 ghost use Rattle.cs_tx_value.specs.declared.object.Object.{Object as AnyObject};
 ghost use Rattle.cs_tx_value.specs.Object.{ObjectFits};
 ghost use Rattle.cs_tx.specs.Digest.{digest_of_session};
@@ -30,7 +31,7 @@ use cs_base::{Config, Key, Memory};
 use cs_check::{Chain, root_is_shown};
 use cs_check_rules::{Checkpoint, checkpoint_head, encode_leaf};
 use cs_table::{Table, TableError};
-use cs_tx::{Digest, Effect, Entry, Judge, Leaf, Object};
+use cs_tx::{Action, Digest, Effect, Judge, Leaf, Object};
 use std::alloc::Global;
 
 /// What the slots of a shard came to so far, by the same table and chain that nodes use.
@@ -43,14 +44,14 @@ pub(crate) struct Stand {
 }
 
 // A vote is given on an approved transaction alone.
-fn is_judged<J: Judge>(alloc: Global, judge: &J, entry: &Entry) -> Result<bool, Memory>
-    requires { EntryFits entry.now }
+fn is_judged<J: Judge>(alloc: Global, judge: &J, entry: &Action) -> Result<bool, Memory>
+    requires { ActionFits entry.now }
     ensures { (config : AnyConfig) → AtAnyGenesis config (J.is_approved judge.now) (λ setup.
         IfOk result (λ judged. judged ≡ judged_in setup entry.now)) }
 {
     match entry {
-        Entry::Prepare(session) => judge.approves(alloc, &session.tx),
-        Entry::Decide(..) => Ok(true),
+        Action::Prepare(session) => judge.approves(alloc, &session.tx),
+        Action::Decide(..) => Ok(true),
     }
 }
 
@@ -68,8 +69,8 @@ fn is_head(heads: &[Digest], made: Option<Checkpoint>) -> bool
 }
 
 // Carries out an entry on a table in which its session, of this digest, has an anchor.
-fn act(alloc: Global, table: &mut Table, entry: &Entry, digest: &Digest) -> Result<Effect, Memory>
-    requires fits { EntryFits entry.now }
+fn act(alloc: Global, table: &mut Table, entry: &Action, digest: &Digest) -> Result<Effect, Memory>
+    requires fits { ActionFits entry.now }
     requires named { digest.now ≡ digest_of_session (session_in entry.now) }
     requires anchored { IsSome
         (anchor_in table.old (ledger_session (λ tx. true) (session_in entry.now))) }
@@ -78,11 +79,11 @@ fn act(alloc: Global, table: &mut Table, entry: &Entry, digest: &Digest) -> Resu
         table.old table.new (effect_of effect)) }
 {
     match entry {
-        Entry::Prepare(session) => {
+        Action::Prepare(session) => {
             let answer = table.prepare(alloc, session, digest)?;
             Ok(Effect::Voted(answer.vote))
         }
-        Entry::Decide(vote, session) => table.decide(alloc, session, digest, *vote),
+        Action::Decide(vote, session) => table.decide(alloc, session, digest, *vote),
     }
 }
 
@@ -121,9 +122,9 @@ impl Stand {
     }
 
     // Executes an entry whose session, of this digest, is well formed and concerns the shard.
-    fn execute(&mut self, alloc: Global, entry: &Entry, digest: &Digest) -> Result<Effect, Memory>
+    fn execute(&mut self, alloc: Global, entry: &Action, digest: &Digest) -> Result<Effect, Memory>
         requires placed { IsPlaced self.old }
-        requires fits { EntryFits entry.now }
+        requires fits { ActionFits entry.now }
         requires named { digest.now ≡ digest_of_session (session_in entry.now) }
         requires fit { AtEverySetup self.old.config
             (λ setup. fits_in setup self.old.shard (session_in entry.now) ≡ true) }
@@ -140,7 +141,7 @@ impl Stand {
 
     // Adds a leaf whose entry was executed last.
     fn push(&mut self, alloc: Global, leaf: &Leaf) -> Result<Option<Checkpoint>, Memory>
-        requires fits { LeafFits leaf.now }
+        requires fits { LeafFits One leaf.now }
         requires leaves { HasLeavesBut
             self.old.table.touched self.old.chain.hashed (seen self.old.table) }
         ensures made { AtItsLog self.old.chain.kept (λ log. IfOk result (λ made. made ≡ made_last
@@ -171,8 +172,8 @@ impl Stand {
         digest: &Digest,
     ) -> Result<Option<Rule>, Memory>
         requires placed { IsPlaced self.old }
-        requires fits { LeafFits leaf.now }
-        requires named { digest.now ≡ digest_of_session (session_in leaf.now.entry) }
+        requires fits { LeafFits One leaf.now }
+        requires named { digest.now ≡ digest_of_session (session_in leaf.now.action) }
         ensures { AtItsLog self.old.chain.kept (λ log.
             AtAnyGenesis self.old.config (J.is_approved judge.now) (λ setup.
             IfOk result (TellsLeaf setup log heads.now leaf.now self.old self.new))) }
@@ -180,13 +181,13 @@ impl Stand {
         if leaf.slot != self.chain.slots() {
             return Ok(Some(Rule::Slot));
         }
-        if !is_fit(alloc, &self.config, self.shard, leaf.entry.session())? {
+        if !is_fit(alloc, &self.config, self.shard, leaf.action.session())? {
             return Ok(Some(Rule::Form));
         }
-        if !is_judged(alloc, judge, &leaf.entry)? {
+        if !is_judged(alloc, judge, &leaf.action)? {
             return Ok(Some(Rule::Judge));
         }
-        let effect = self.execute(alloc, &leaf.entry, digest)?;
+        let effect = self.execute(alloc, &leaf.action, digest)?;
         if effect != leaf.result {
             return Ok(Some(Rule::Result));
         }

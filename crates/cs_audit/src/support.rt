@@ -1,6 +1,7 @@
 //! Decisions, and the votes that support them.
 ghost use Rattle.std.specs.Prelude.{◌≡◌, List, Bool, IfOk, map};
 ghost use Rattle.std.specs.List.{All};
+ghost use Rattle.cs_base.specs.declared.version.Version.TheVariants.{One};
 ghost use Rattle.cs_tx_types.specs.Log.{LeafFits};
 ghost use Rattle.cs_node_pool.specs.Deployed.{AtEverySetup};
 ghost use Rattle.cs_audit_dump.specs.declared.dump.Log.{Log as AnyLog};
@@ -25,7 +26,7 @@ fn is_supported(
     leaf: &Leaf,
     digest: Digest,
 ) -> Result<bool, Memory>
-    requires fits { LeafFits leaf.now }
+    requires fits { LeafFits One leaf.now }
     requires named { digest ≡ digest_of_leaf leaf.now }
     ensures { (logs : List AnyLog) → AtEverySetup config.now (λ setup.
         KeepsVotes setup logs votes.now →
@@ -33,11 +34,11 @@ fn is_supported(
 {
     match leaf.result {
         Effect::Accepted => {
-            let shards = concerned(alloc, leaf.entry.session(), config)?;
+            let shards = concerned(alloc, leaf.action.session(), config)?;
             Ok(votes.all_commit(shards.as_slice(), digest))
         }
         Effect::Aborted => {
-            let shards = concerned(alloc, leaf.entry.session(), config)?;
+            let shards = concerned(alloc, leaf.action.session(), config)?;
             Ok(votes.one_aborts(shards.as_slice(), digest))
         }
         Effect::Voted(_) | Effect::Skipped | Effect::Void => Ok(true),
@@ -53,7 +54,7 @@ fn unsupported_in(
     log: &Log,
     digests: &[Digest],
 ) -> Result<Option<Fault>, Memory>
-    requires fits { All LeafFits log.now.leaves }
+    requires fits { All (LeafFits One) log.now.leaves }
     requires named { digests.now ≡ digests_in_log log.now }
     ensures { (logs : List AnyLog) → AtEverySetup config.now (λ setup.
         KeepsVotes setup logs votes.now →

@@ -4,7 +4,7 @@ ghost use Rattle.std.specs.List.{list_any, list_all};
 ghost use Rattle.cs_audit.specs.Kept.{no_votes, is_kept, with_shard_digest, votes_noted};
 
 use cs_base::Memory;
-use cs_tx::{Digest, Effect, Entry, Vote};
+use cs_tx::{Action, Digest, Effect, Vote};
 use indexmap::IndexSet;
 use std::alloc::Global;
 use std::marker::Model;
@@ -56,15 +56,15 @@ impl Votes {
     pub(crate) fn note(
         &mut self,
         shard: u16,
-        entry: &Entry,
+        entry: &Action,
         came_to: Effect,
         digest: Digest,
     ) -> Result<(), Memory>
         ensures { OnOk result (self.new ≡ votes_noted shard entry.now came_to digest self.old) }
     {
         match (entry, came_to) {
-            (Entry::Prepare(_), Effect::Voted(Vote::Commit)) => self.commit(shard, digest),
-            (Entry::Prepare(_), Effect::Voted(Vote::Abort)) => self.abort(shard, digest),
+            (Action::Prepare(_), Effect::Voted(Vote::Commit)) => self.commit(shard, digest),
+            (Action::Prepare(_), Effect::Voted(Vote::Abort)) => self.abort(shard, digest),
             _ => Ok(()),
         }
     }

@@ -9,6 +9,7 @@ use Rattle.cs_base.specs.declared.limits.TheConstants.{MOST_SHARDS, MOST_LIARS, 
 use Rattle.cs_tx_value.specs.Object.{object_encoding, DigestFits, ObjectFits}
 use Rattle.cs_tx_value.specs.declared.object.Object.{Object}
 use Rattle.cs_tx_types.specs.declared.leaf.Leaf.{Leaf}
+use Rattle.cs_base.specs.declared.version.Version.TheVariants.{One}
 use Rattle.cs_tx_types.specs.Log.{leaf_encoding, LeafFits}
 use Rattle.cs_sched.specs.Playable.{IsContractText}
 use Rattle.cs_sched.specs.Printed.{contract_lines, genesis_lines}
@@ -40,9 +41,9 @@ objects_are_lines : (objects : List Object) → AllByRecursion (λ object. IsByt
 objects_are_lines [] fit = tt
 objects_are_lines (object ∷ objects) fit = ((field-word (codes "genesis") (omega arith) refl, (field-bytes (object_encoding object) fit.0, tt)), objects_are_lines objects fit.1)
 
-leaves_are_lines : (leaves : List Leaf) → AllByRecursion (λ leaf. IsBytes (leaf_encoding leaf)) leaves → AllByRecursion IsLine (map leaf_words leaves)
+leaves_are_lines : (leaves : List Leaf) → AllByRecursion (λ leaf. IsBytes (leaf_encoding One leaf)) leaves → AllByRecursion IsLine (map leaf_words leaves)
 leaves_are_lines [] fit = tt
-leaves_are_lines (leaf ∷ leaves) fit = ((field-word (codes "leaf") (omega arith) refl, (field-bytes (leaf_encoding leaf) fit.0, tt)), leaves_are_lines leaves fit.1)
+leaves_are_lines (leaf ∷ leaves) fit = ((field-word (codes "leaf") (omega arith) refl, (field-bytes (leaf_encoding One leaf) fit.0, tt)), leaves_are_lines leaves fit.1)
 
 heads_are_lines : (heads : List (List ℕ)) → AllByRecursion DigestFits heads → AllByRecursion IsLine (map head_words heads)
 heads_are_lines [] fit = tt
@@ -60,9 +61,9 @@ logs_are_lines shard (log ∷ logs) few fit =
     (named, lines-append (map leaf_words log.leaves) (map head_words log.heads) (leaves_are_lines log.leaves fit.0.leaves) (heads_are_lines log.heads fit.0.heads))
     (logs_are_lines (shard + 1) logs (omega arith) fit.1)
 
-all_fit : (logs : List Log) → AllByRecursion IsFormedLog logs → AllByRecursion (λ (log : Log). AllByRecursion LeafFits log.leaves) logs
+all_fit : (logs : List Log) → AllByRecursion IsFormedLog logs → AllByRecursion (λ (log : Log). AllByRecursion (LeafFits One) log.leaves) logs
 all_fit [] formed = tt
-all_fit (log ∷ logs) formed = (recursion_from_All LeafFits log.leaves formed.0.leaves, all_fit logs formed.1)
+all_fit (log ∷ logs) formed = (recursion_from_All (LeafFits One) log.leaves formed.0.leaves, all_fit logs formed.1)
 
 module _ (dump : Dump) (formed : IsFormed dump) (encoded : IsEncoded dump) where
   abbrev ended : List (List (List ℕ))
@@ -111,7 +112,7 @@ module _ (dump : Dump) (formed : IsFormed dump) (encoded : IsEncoded dump) where
       let formed_logs = recursion_from_All IsFormedLog dump.logs formed.logs in
       let logs_read = reads_logs config dump.contracts dump.genesis any false [] dump.logs 0 refl (omega arith) formed_logs (all_fit dump.logs formed_logs) encoded.logs in
       let history_read = reads_history config dump.contracts dump.genesis dump.logs any logs_any dump.history (omega arith) encoded.txs encoded.history in
-      steps_then empty_dump_draft at_contracts last ((codes "dump" ∷ []) ∷ config_lines config) (contract_lines dump.contracts ++ (genesis_lines dump.genesis ++ (logs_lines 0 dump.logs ++ (dump_history_lines dump.history ++ ended)))) (reads_config config)
+      steps_then empty_dump_draft at_contracts last ((codes "dump" ∷ []) ∷ config_lines config) (contract_lines dump.contracts ++ (genesis_lines dump.genesis ++ (logs_lines 0 dump.logs ++ (dump_history_lines dump.history ++ ended)))) (reads_config config formed.version)
       (steps_then at_contracts at_objects last (contract_lines dump.contracts) (genesis_lines dump.genesis ++ (logs_lines 0 dump.logs ++ (dump_history_lines dump.history ++ ended))) contracts_read
       (steps_then at_objects at_logs last (genesis_lines dump.genesis) (logs_lines 0 dump.logs ++ (dump_history_lines dump.history ++ ended)) objects_read
       (steps_then at_logs at_history last (logs_lines 0 dump.logs) (dump_history_lines dump.history ++ ended) logs_read

@@ -10,6 +10,7 @@ use Rattle.cs_base.specs.declared.limits.TheConstants.{MOST_GENESIS}
 use Rattle.cs_tx_value.specs.declared.object.Object.{Object}
 use Rattle.cs_tx_value.specs.Object.{ObjectFits}
 use Rattle.cs_tx_types.specs.declared.leaf.Leaf.{Leaf}
+use Rattle.cs_base.specs.declared.version.Version.TheVariants.{One}
 use Rattle.cs_tx_types.specs.Log.{LeafFits}
 use Rattle.cs_tx.specs.Digest.{name_of_genesis}
 use Rattle.cs_tx.specs.GenesisNames.{is_known, genesis_names}
@@ -62,15 +63,17 @@ abbrev pub Counts : Draft → Type 0
 Counts draft = (length draft.log.leaves + draft.leaves_left) / 16 ≡ length draft.log.heads + draft.heads_left
 
 pub record IsKept (draft : Draft) : Type 0 where
+  pub version : draft.dump.config.version ≡ 1
   pub given : IsGiven draft.dump.contracts draft.dump.genesis draft.names
   pub logs : All IsFormedLog draft.dump.logs
-  pub leaves : All LeafFits draft.log.leaves
+  pub leaves : All (LeafFits One) draft.log.leaves
   pub counts : Counts draft
   pub fresh : is_open draft ≡ false → draft.log ≡ empty_dump_log
   pub placed : IsPlaced draft.stage draft
 
 pub empty_kept : IsKept empty_dump_draft
 empty_kept = record {
+  version = omega arith;
   given = record {
     accepted = All-nil IsContractText;
     few_contracts = omega arith;
@@ -80,15 +83,16 @@ empty_kept = record {
     named = refl;
   };
   logs = All-nil IsFormedLog;
-  leaves = All-nil LeafFits;
+  leaves = All-nil (LeafFits One);
   counts = refl;
   fresh = λ shut. refl;
   placed = (refl, refl);
 }
 
 -- the same contracts and objects, in another stage before the logs
-pub with_config-kept : (draft : Draft) (next : Stage) (config : Config) → IsKept draft → IsPlaced next (draft_with_config draft next config) → IsKept (draft_with_config draft next config)
-with_config-kept draft next config kept placed = record {
+pub with_config-kept : (draft : Draft) (next : Stage) (config : Config) → config.version ≡ 1 → IsKept draft → IsPlaced next (draft_with_config draft next config) → IsKept (draft_with_config draft next config)
+with_config-kept draft next config first kept placed = record {
+  version = first;
   given = kept.given;
   logs = kept.logs;
   leaves = kept.leaves;
@@ -99,6 +103,7 @@ with_config-kept draft next config kept placed = record {
 
 pub at_stage-kept : (draft : Draft) (next : Stage) → IsKept draft → IsPlaced next (dump_at_stage draft next) → IsKept (dump_at_stage draft next)
 at_stage-kept draft next kept placed = record {
+  version = kept.version;
   given = kept.given;
   logs = kept.logs;
   leaves = kept.leaves;
@@ -109,6 +114,7 @@ at_stage-kept draft next kept placed = record {
 
 pub with_contract-kept : (draft : Draft) (text : List ℕ) → IsKept draft → draft.stage ≡ stage.Contracts → IsContractText text → length draft.dump.contracts < MOST_CONTRACTS → IsKept (draft_with_contract draft text)
 with_contract-kept draft text kept at fits few = record {
+  version = kept.version;
   given = record {
     accepted = All-push IsContractText draft.dump.contracts text kept.given.accepted fits;
     few_contracts = omega (arith, length-append draft.dump.contracts (text ∷ []));
@@ -132,6 +138,7 @@ with_genesis-kept draft object kept none fits few new =
     let appended : genesis_names 0 (draft.dump.genesis ++ object ∷ []) ≡ genesis_names 0 draft.dump.genesis ++ name ∷ [] = genesis_names-append 0 draft.dump.genesis object ∙ rw zero_first refl in
     let unknown : is_known name (genesis_names 0 draft.dump.genesis) ≡ false = subst (λ names. is_known name names ≡ false) kept.given.named new in
     record {
+      version = kept.version;
       given = record {
         accepted = kept.given.accepted;
         few_contracts = kept.given.few_contracts;
@@ -161,9 +168,10 @@ none_left leaves heads shut = by (nat_lt 0 leaves) refl shut
 
 -- what is known of a log of which a line was read, before it is settled
 pub record IsInLog (draft : Draft) : Type 0 where
+  pub version : draft.dump.config.version ≡ 1
   pub given : IsGiven draft.dump.contracts draft.dump.genesis draft.names
   pub logs : All IsFormedLog draft.dump.logs
-  pub leaves : All LeafFits draft.log.leaves
+  pub leaves : All (LeafFits One) draft.log.leaves
   pub counts : Counts draft
   pub at : draft.stage ≡ stage.Logs
   pub room : length draft.dump.logs < draft.dump.config.shards
@@ -174,6 +182,7 @@ shut_of draft = record draft { dump = record draft.dump { logs = draft.dump.logs
 
 open_kept : (draft : Draft) → IsInLog draft → is_open draft ≡ true → IsKept draft
 open_kept draft within left = record {
+  version = within.version;
   given = within.given;
   logs = within.logs;
   leaves = within.leaves;
@@ -190,9 +199,10 @@ shut_kept draft within shut =
     let whole : length draft.log.heads ≡ length draft.log.leaves / 16 = (let none : length draft.log.heads ≡ length draft.log.heads + draft.heads_left = omega arith in none) ∙ sym counts ∙ ap (λ n. n / 16) all in
     let nothing : (0 + draft.leaves_left) / 16 ≡ 0 + draft.heads_left = ap (λ n. (0 + n) / 16) leaves ∙ sym (ap (λ n. 0 + n) heads) in
     record {
+      version = within.version;
       given = within.given;
       logs = All-push IsFormedLog draft.dump.logs draft.log within.logs (record { leaves = within.leaves; heads = whole });
-      leaves = All-nil LeafFits;
+      leaves = All-nil (LeafFits One);
       counts = nothing;
       fresh = λ is. refl;
       placed =
@@ -217,6 +227,7 @@ with_log-kept draft slots kept shut room =
     let leaves : length draft.log.leaves + slots ≡ slots = omega arith in
     let heads : slots / 16 ≡ length draft.log.heads + slots / 16 = omega arith in
     settled-kept (record draft { stage = stage.Logs; leaves_left = slots; heads_left = slots / 16 }) (record {
+      version = kept.version;
       given = kept.given;
       logs = kept.logs;
       leaves = kept.leaves;
@@ -233,14 +244,15 @@ pub record IsMidLog (draft : Draft) : Type 0 where
 room_of : (draft : Draft) → IsKept draft → IsMidLog draft → length draft.dump.logs < draft.dump.config.shards
 room_of draft kept mid = let some : HasSome draft = subst (λ s. IsPlaced s draft) mid.at kept.placed in some.1 mid.left
 
-pub with_leaf-kept : (draft : Draft) (leaf : Leaf) → IsKept draft → IsMidLog draft → 0 < draft.leaves_left → LeafFits leaf → IsKept (draft_with_leaf draft leaf)
+pub with_leaf-kept : (draft : Draft) (leaf : Leaf) → IsKept draft → IsMidLog draft → 0 < draft.leaves_left → LeafFits One leaf → IsKept (draft_with_leaf draft leaf)
 with_leaf-kept draft leaf kept mid some fits =
     let more = length-append draft.log.leaves (leaf ∷ []) in
     let same : length (draft.log.leaves ++ leaf ∷ []) + (draft.leaves_left - 1) ≡ length draft.log.leaves + draft.leaves_left = omega arith in
     settled-kept (record draft { log = record draft.log { leaves = draft.log.leaves ++ leaf ∷ [] }; leaves_left = draft.leaves_left - 1 }) (record {
+      version = kept.version;
       given = kept.given;
       logs = kept.logs;
-      leaves = All-push LeafFits draft.log.leaves leaf kept.leaves fits;
+      leaves = All-push (LeafFits One) draft.log.leaves leaf kept.leaves fits;
       counts = ap (λ n. n / 16) same ∙ kept.counts;
       at = mid.at;
       room = room_of draft kept mid;
@@ -251,6 +263,7 @@ with_head-kept draft head kept mid some =
     let more = length-append draft.log.heads (head ∷ []) in
     let same : length draft.log.heads + draft.heads_left ≡ length (draft.log.heads ++ head ∷ []) + (draft.heads_left - 1) = omega arith in
     settled-kept (record draft { log = record draft.log { heads = draft.log.heads ++ head ∷ [] }; heads_left = draft.heads_left - 1 }) (record {
+      version = kept.version;
       given = kept.given;
       logs = kept.logs;
       leaves = kept.leaves;
@@ -263,6 +276,7 @@ with_head-kept draft head kept mid some =
 
 pub with_history-kept : (draft : Draft) (txs : ℕ) → IsKept draft → HasAll draft → IsKept (with_history draft txs)
 with_history-kept draft txs kept all = record {
+  version = kept.version;
   given = kept.given;
   logs = kept.logs;
   leaves = kept.leaves;
@@ -273,6 +287,7 @@ with_history-kept draft txs kept all = record {
 
 pub with_tx-kept : (draft : Draft) (tx : List ℕ) → IsKept draft → draft.stage ≡ stage.History → IsKept (with_tx draft tx)
 with_tx-kept draft tx kept at = record {
+  version = kept.version;
   given = kept.given;
   logs = kept.logs;
   leaves = kept.leaves;

@@ -13,6 +13,7 @@ use Rattle.cs_base.proofs.Configs.{configured-config}
 use Rattle.cs_tx_value.specs.Object.{object_encoding, DigestFits, ObjectFits}
 use Rattle.cs_tx_value.specs.declared.object.Object.{Object}
 use Rattle.cs_tx_types.specs.declared.leaf.Leaf.{Leaf}
+use Rattle.cs_base.specs.declared.version.Version.TheVariants.{One}
 use Rattle.cs_tx_types.specs.Log.{leaf_encoding, LeafFits}
 use Rattle.cs_tx.specs.Digest.{name_of_genesis}
 use Rattle.cs_tx.specs.GenesisNames.{is_known, genesis_names}
@@ -59,8 +60,8 @@ genesis_stage true = stage.Genesis
 
 -- ---- the configuration
 
-pub reads_config : (config : Config) → steps empty_dump_draft ((codes "dump" ∷ []) ∷ config_lines config) ≡ Ok (made stage.Contracts config [] [] [] [] 0)
-reads_config config =
+pub reads_config : (config : Config) → config.version ≡ 1 → steps empty_dump_draft ((codes "dump" ∷ []) ∷ config_lines config) ≡ Ok (made stage.Contracts config [] [] [] [] 0)
+reads_config config one =
     let least = config_of 1 0 0 in
     let first = config_of config.shards 0 0 in
     let second = config_of config.shards config.f 0 in
@@ -76,7 +77,7 @@ reads_config config =
     let trusted : config_in_range (configured first.shards config.f 0) ≡ Ok second =
     ap (λ n. config_in_range (configured n config.f 0)) same ∙ ap (λ field. config_in_range (unless_out second field)) out_f in
     let whole : config_in_range (configured second.shards second.f config.dummies) ≡ Ok config =
-    ap (λ n. config_in_range (configured n second.f config.dummies)) same ∙ ap (λ n. config_in_range (configured config.shards n config.dummies)) same_f ∙ ap config_in_range (configured-config config) in
+    ap (λ n. config_in_range (configured n second.f config.dummies)) same ∙ ap (λ n. config_in_range (configured config.shards n config.dummies)) same_f ∙ ap config_in_range (configured-config config one) in
     let begun = made stage.Shards least [] [] [] [] 0 in
     let shards : dump_step begun (number_words (codes "shards") config.shards) ≡ Ok (made stage.Faulty first [] [] [] [] 0) = rw (shards_back least first config.shards (omega arith) sharded) refl in
     let faulty : dump_step (made stage.Faulty first [] [] [] [] 0) (number_words (codes "faulty") config.f) ≡ Ok (made stage.Dummies second [] [] [] [] 0) = rw (faulty_back first second config.f (omega arith) trusted) refl in
@@ -154,7 +155,7 @@ module _ (config : Config) where
       none : nat_lt 0 0 ≡ false
       none = le-ltb 0 0 (omega arith)
 
-      leaf_step : (logs : List Log) (log : Log) (leaf : Leaf) (leaves heads : ℕ) → LeafFits leaf → IsBytes (leaf_encoding leaf)
+      leaf_step : (logs : List Log) (log : Log) (leaf : Leaf) (leaves heads : ℕ) → LeafFits One leaf → IsBytes (leaf_encoding One leaf)
           → dump_step (within logs log (suc leaves) heads) (leaf_words leaf) ≡ Ok (log_settled (within logs (record { leaves = log.leaves ++ leaf ∷ []; heads = log.heads }) leaves heads))
       leaf_step logs log leaf leaves heads fits encoded =
           let less : suc leaves - 1 ≡ leaves = omega arith in
@@ -182,7 +183,7 @@ module _ (config : Config) where
           (head_words head) (map head_words heads) (head_step logs log head (length heads) fit.0)
           (reads_heads logs next heads fit.1 ∙ ap (λ hs. Ok (log_settled (within logs (record { leaves = log.leaves; heads = hs }) 0 0))) (append_assoc log.heads (head ∷ []) heads))
 
-      reads_leaves : (logs : List Log) (log : Log) (leaves : List Leaf) (heads : ℕ) → AllByRecursion LeafFits leaves → AllByRecursion (λ leaf. IsBytes (leaf_encoding leaf)) leaves
+      reads_leaves : (logs : List Log) (log : Log) (leaves : List Leaf) (heads : ℕ) → AllByRecursion (LeafFits One) leaves → AllByRecursion (λ leaf. IsBytes (leaf_encoding One leaf)) leaves
           → steps (log_settled (within logs log (length leaves) heads)) (map leaf_words leaves) ≡ Ok (log_settled (within logs (record { leaves = log.leaves ++ leaves; heads = log.heads }) 0 heads))
       reads_leaves logs log [] heads fit encoded = ap (λ ls. Ok (log_settled (within logs (record { leaves = ls; heads = log.heads }) 0 heads))) (sym (append-nil log.leaves))
       reads_leaves logs log (leaf ∷ leaves) heads fit encoded =
@@ -209,7 +210,7 @@ module _ (config : Config) where
           by true false = rw (lt-ltb (length logs) config.shards room, log_back (length logs) slots small few) refl
           by any true = rw (lt-ltb (length logs) config.shards room, log_back (length logs) slots small few) refl
 
-      reads_log : (any more : Bool) (logs : List Log) (log : Log) → length logs < config.shards → IsFormedLog log → AllByRecursion LeafFits log.leaves → IsEncodedLog log
+      reads_log : (any more : Bool) (logs : List Log) (log : Log) → length logs < config.shards → IsFormedLog log → AllByRecursion (LeafFits One) log.leaves → IsEncodedLog log
           → steps (made (log_stage any more) config contracts genesis logs [] 0) (log_lines (length logs) log) ≡ Ok (made stage.Logs config contracts genesis (logs ++ log ∷ []) [] 0)
       reads_log any more logs log room formed fits encoded =
           let leaves = length log.leaves in
@@ -223,7 +224,7 @@ module _ (config : Config) where
           (reads_leaves logs empty_dump_log log.leaves (leaves / 16) fits encoded.leaves) heads_read)
 
       pub reads_logs : (any more : Bool) (logs some_logs : List Log) (shard : ℕ) → shard ≡ length logs → length logs + length some_logs ≤ config.shards
-          → AllByRecursion IsFormedLog some_logs → AllByRecursion (λ (log : Log). AllByRecursion LeafFits log.leaves) some_logs → AllByRecursion IsEncodedLog some_logs
+          → AllByRecursion IsFormedLog some_logs → AllByRecursion (λ (log : Log). AllByRecursion (LeafFits One) log.leaves) some_logs → AllByRecursion IsEncodedLog some_logs
           → steps (made (log_stage any more) config contracts genesis logs [] 0) (logs_lines shard some_logs) ≡ Ok (made (log_stage any (any_of more some_logs)) config contracts genesis (logs ++ some_logs) [] 0)
       reads_logs any more logs [] shard at room formed fits encoded = ap (λ all. Ok (made (log_stage any more) config contracts genesis all [] 0)) (sym (append-nil logs))
       reads_logs any more logs (log ∷ some_logs) shard at room formed fits encoded =

@@ -7,6 +7,7 @@ use Rattle.std.proofs.lemmas.Bool.{ltb-true, ltb-false}
 use Rattle.cs_base.specs.Codes.{bytes_of}
 use Rattle.cs_base.specs.Fields.{whole_at}
 use Rattle.cs_tx_types.specs.declared.leaf.Leaf.{Leaf}
+use Rattle.cs_base.specs.declared.version.Version.TheVariants.{One}
 use Rattle.cs_tx_types.specs.Log.{LeafFits, leaf_at}
 use Rattle.cs_tx.specs.Digest.{name_of_genesis}
 use Rattle.cs_tx.specs.GenesisNames.{is_known}
@@ -18,7 +19,7 @@ use Rattle.cs_sched.specs.Said.{shards_said, faulty_said, dummies_said, contract
 use Rattle.cs_text.specs.declared.cause.Cause.TheVariants as cause
 use Rattle.cs_text.specs.declared.error.TextError.{TextError}
 use Rattle.cs_text.proofs.Steps.{step_ok, change_ok, ok_same, when_ok, unless_ok, either_ok, some_ok}
-use Rattle.cs_sched.proofs.Said.{contract_said-ok, object_said-ok}
+use Rattle.cs_sched.proofs.Said.{contract_said-ok, object_said-ok, shards_first, faulty_first, dummies_first}
 use Rattle.cs_audit_dump.specs.Said.{log_said, leaf_said, encoded_leaf}
 use Rattle.cs_audit_dump.specs.Drafts.{dump_has_ended, is_open}
 use Rattle.cs_audit_dump.specs.Lines.{draft_with_config, draft_with_contract, draft_with_genesis, with_log, draft_with_leaf, draft_with_head, with_history, with_tx, dump_at_stage, after_shards_line, after_faulty_line, after_dummies_line, after_contract_line, dump_named_object, after_genesis_line, after_log_line, after_leaf_line, after_head_line, history_line, after_tx_line, after_end_line}
@@ -37,11 +38,11 @@ either_way : {B E : Type 0} (test : Bool) (one other : Result B E) (b : B) → (
 either_way true one other b is = inl (refl, is)
 either_way false one other b is = inr (refl, is)
 
-leaf_said-ok : (fields : List (List ℕ)) (leaf : Leaf) → leaf_said fields ≡ Ok leaf → LeafFits leaf
+leaf_said-ok : (fields : List (List ℕ)) (leaf : Leaf) → leaf_said fields ≡ Ok leaf → LeafFits One leaf
 leaf_said-ok [] leaf is = absurd cc
 leaf_said-ok (field ∷ []) leaf is =
     let (bytes, hex, encoded) = step_ok (ok_or (bytes_of field) cause.Hex) encoded_leaf leaf is in
-    (found_fits bytes leaf (bytes_fit field bytes (some_ok (bytes_of field) cause.Hex bytes hex)) (some_ok (whole_at leaf_at bytes) cause.Object leaf encoded)).0
+    (found_fits bytes leaf (bytes_fit field bytes (some_ok (bytes_of field) cause.Hex bytes hex)) (some_ok (whole_at (leaf_at One) bytes) cause.Object leaf encoded)).0
 leaf_said-ok (field ∷ another ∷ more) leaf is = absurd cc
 
 no_log-shut : (draft : Draft) → HasNoLog draft → length draft.dump.logs ≤ draft.dump.config.shards
@@ -51,17 +52,17 @@ module _ (draft next : Draft) (fields : List (List ℕ)) (kept : IsKept draft) w
   shards_kept : HasNoLog draft → after_shards_line draft fields ≡ Ok next → IsKept next
   shards_kept none is =
       let (config, said, moved) = change_ok (shards_said draft.dump.config fields) (λ config. draft_with_config draft stage.Faulty config) next is in
-      subst IsKept moved (with_config-kept draft stage.Faulty config kept none)
+      subst IsKept moved (with_config-kept draft stage.Faulty config (shards_first draft.dump.config config fields said) kept none)
 
   faulty_kept : HasNoLog draft → after_faulty_line draft fields ≡ Ok next → IsKept next
   faulty_kept none is =
       let (config, said, moved) = change_ok (faulty_said draft.dump.config fields) (λ config. draft_with_config draft stage.Dummies config) next is in
-      subst IsKept moved (with_config-kept draft stage.Dummies config kept none)
+      subst IsKept moved (with_config-kept draft stage.Dummies config (faulty_first draft.dump.config config fields said) kept none)
 
   dummies_kept : HasNoLog draft → after_dummies_line draft fields ≡ Ok next → IsKept next
   dummies_kept none is =
       let (config, said, moved) = change_ok (dummies_said draft.dump.config fields) (λ config. draft_with_config draft stage.Contracts config) next is in
-      subst IsKept moved (with_config-kept draft stage.Contracts config kept none)
+      subst IsKept moved (with_config-kept draft stage.Contracts config (dummies_first draft.dump.config config fields said) kept none)
 
   contract_kept : draft.stage ≡ stage.Contracts → after_contract_line draft fields ≡ Ok next → IsKept next
   contract_kept at is =
@@ -190,6 +191,7 @@ kept_by_line number draft next word fields kept is = line_kept draft next fields
 -- at the end each shard has its log
 ended_formed : (draft : Draft) → IsKept draft → dump_has_ended draft.stage ≡ true → IsFormed draft.dump
 ended_formed draft kept ended = record {
+  version = kept.version;
   contracts = kept.given.accepted;
   few_contracts = kept.given.few_contracts;
   objects = kept.given.objects;

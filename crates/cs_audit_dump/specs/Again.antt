@@ -3,6 +3,7 @@ use Rattle.std.specs.Prelude.{◌≡◌, ℕ, ◌<◌, ◌≤◌, ◌^◌, lengt
 use Rattle.std.specs.List.{AllByRecursion}
 use Rattle.cs_base.specs.Fields.{IsBytes}
 use Rattle.cs_tx_value.specs.Object.{object_encoding, DigestFits}
+use Rattle.cs_base.specs.declared.version.Version.TheVariants.{One}
 use Rattle.cs_tx_types.specs.Log.{leaf_encoding}
 use Rattle.cs_audit_dump.specs.Formed.{IsFormed}
 use Rattle.cs_audit_dump.specs.Text.{dump_of}
@@ -12,7 +13,7 @@ use Rattle.cs_audit_dump.specs.Printed.{printed_dump}
 
 -- what is encoded of a log are bytes, its heads are digests, and its slots fit into 64 bits
 pub record IsEncodedLog (log : Log) : Type 0 where
-  pub leaves : AllByRecursion (λ leaf. IsBytes (leaf_encoding leaf)) log.leaves
+  pub leaves : AllByRecursion (λ leaf. IsBytes (leaf_encoding One leaf)) log.leaves
   pub heads : AllByRecursion DigestFits log.heads
   pub slots : length log.leaves < 2 ^ 64
 

@@ -4,6 +4,7 @@ use Rattle.std.specs.Fmt.{decimal}
 use Rattle.cs_base.specs.Fields.{each}
 use Rattle.cs_base.specs.declared.config.Config.{Config}
 use Rattle.cs_tx_types.specs.declared.leaf.Leaf.{Leaf}
+use Rattle.cs_base.specs.declared.version.Version.TheVariants.{One}
 use Rattle.cs_tx_types.specs.Log.{leaf_encoding}
 use Rattle.cs_text.specs.Printed.{line_text, number_words, bytes_words}
 use Rattle.cs_sched.specs.Printed.{contract_lines, genesis_lines}
@@ -11,7 +12,7 @@ use Rattle.cs_audit_dump.specs.declared.dump.Dump.{Dump}
 use Rattle.cs_audit_dump.specs.declared.dump.Log.{Log}
 
 abbrev pub leaf_words : Leaf → List (List ℕ)
-leaf_words leaf = bytes_words (codes "leaf") (leaf_encoding leaf)
+leaf_words leaf = bytes_words (codes "leaf") (leaf_encoding One leaf)
 
 abbrev pub head_words : List ℕ → List (List ℕ)
 head_words head = bytes_words (codes "head") head

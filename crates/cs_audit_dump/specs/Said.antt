@@ -4,6 +4,7 @@ use Rattle.std.specs.Option.{ok_or}
 use Rattle.cs_base.specs.Codes.{number_of, bytes_of}
 use Rattle.cs_base.specs.Fields.{whole_at}
 use Rattle.cs_tx_types.specs.declared.leaf.Leaf.{Leaf}
+use Rattle.cs_base.specs.declared.version.Version.TheVariants.{One}
 use Rattle.cs_tx_types.specs.Log.{leaf_at}
 use Rattle.cs_text.specs.Values.{◌>>=◌, only_field}
 use Rattle.cs_text.specs.declared.cause.Cause.{Cause}
@@ -21,7 +22,7 @@ log_said turn _ = Err cause.Count
 
 -- the leaf of which these bytes are the encoding
 abbrev pub encoded_leaf : List ℕ → Result Leaf Cause
-encoded_leaf bytes = ok_or (whole_at leaf_at bytes) cause.Object
+encoded_leaf bytes = ok_or (whole_at (leaf_at One) bytes) cause.Object
 
 -- a leaf in hex, of any length
 abbrev pub leaf_of_hex : List ℕ → Result Leaf Cause

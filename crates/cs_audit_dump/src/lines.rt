@@ -6,7 +6,7 @@ ghost use Rattle.cs_audit_dump.specs.Said.{slots_said, log_said, encoded_leaf, l
 
 use cs_base::read_bytes;
 use cs_text::{Cause, LineError, only_field, read_field_number};
-use cs_tx::{Encoded, FormError, Leaf};
+use cs_tx::{FormError, Leaf, Versioned};
 use std::alloc::Global;
 
 // How many slots the log has of the shard whose turn it is.
@@ -48,7 +48,7 @@ fn read_leaf(alloc: Global, field: &[u8]) -> Result<Leaf, LineError>
 fn decode_leaf(alloc: Global, bytes: &[u8]) -> Result<Leaf, LineError>
     ensures { GivesStep result (encoded_leaf bytes.now) }
 {
-    match Leaf::decode(alloc, bytes) {
+    match Leaf::decode(alloc, bytes, 1) {
         Ok(leaf) => Ok(leaf),
         Err(FormError::Memory) => Err(LineError::Memory),
         Err(FormError::BadForm) => Err(LineError::Bad(Cause::Object)),

@@ -3,8 +3,8 @@ use Rattle.std.proofs.Common.{◌≡◌, inl, inr, ℕ, zero, suc, ◌+◌, ◌<
 use Rattle.std.specs.Prelude.{if◌then◌else◌}
 use Rattle.std.proofs.lemmas.Bool.{or_right, eqb-true}
 use Rattle.cs_base.specs.Lists.{IsIn}
-use Rattle.cs_tx_types.specs.declared.entry.Entry.{Entry}
-use Rattle.cs_tx_types.specs.declared.entry.Entry.TheVariants.{Prepare, Decide}
+use Rattle.cs_tx_types.specs.declared.action.Action.{Action}
+use Rattle.cs_tx_types.specs.declared.action.Action.TheVariants.{Prepare, Decide}
 use Rattle.cs_tx_types.specs.declared.vote.Vote.TheVariants as vote
 use Rattle.cs_tx_types.specs.declared.session.Session.{Session}
 use Rattle.cs_tx_types.specs.declared.leaf.Leaf.{Leaf}
@@ -57,13 +57,13 @@ aborts_only rules shard t entry e =
       | Aborts y key what is held to ↦ (y, what)
     ]
 
-commits_so : (setup : Setup) (past : List Steps.Step) (shard : ℕ) (entry : Entry) → IsAllowed setup.rules past shard (entry_of setup entry)
+commits_so : (setup : Setup) (past : List Steps.Step) (shard : ℕ) (entry : Action) → IsAllowed setup.rules past shard (entry_of setup entry)
     → (y : Seen.Session) → entry_of setup entry ≡ Shard.Decide y Commit → Steps.all_commit setup.rules past (setup.session_of (session_in entry)) ≡ true
 commits_so setup past shard (Prepare x) allowed y is = absurd cc
 commits_so setup past shard (Decide vote.Commit x) allowed y is = allowed.1
 commits_so setup past shard (Decide vote.Abort x) allowed y is = absurd cc
 
-aborts_so : (setup : Setup) (past : List Steps.Step) (shard : ℕ) (entry : Entry) → IsAllowed setup.rules past shard (entry_of setup entry)
+aborts_so : (setup : Setup) (past : List Steps.Step) (shard : ℕ) (entry : Action) → IsAllowed setup.rules past shard (entry_of setup entry)
     → (y : Seen.Session) → entry_of setup entry ≡ Shard.Decide y Abort → Steps.one_aborts setup.rules past (setup.session_of (session_in entry)) ≡ true
 aborts_so setup past shard (Prepare x) allowed y is = absurd cc
 aborts_so setup past shard (Decide vote.Commit x) allowed y is = absurd cc

@@ -35,11 +35,11 @@ module _ (setup : Setup) (shard : ℕ) where
       let head = is_head heads (made_last (after_leaf setup shard stand leaf).log) in
       let after_result = if not head then Some rule.Head else None in
       let after_judge = if not (is_result setup shard stand leaf) then Some rule.Result else after_result in
-      let after_form = if not (is_judged setup leaf.entry) then Some rule.Judge else after_judge in
-      let after_slot = if not (is_fit setup shard (session_in leaf.entry)) then Some rule.Form else after_form in
+      let after_form = if not (is_judged setup leaf.action) then Some rule.Judge else after_judge in
+      let after_slot = if not (is_fit setup shard (session_in leaf.action)) then Some rule.Form else after_form in
       passing (leaf.slot == length stand.log.leaves) rule.Slot after_slot (eq-eqb leaf.slot (length stand.log.leaves) is.slot)
-      (passing (is_fit setup shard (session_in leaf.entry)) rule.Form after_form is.fit
-      (passing (is_judged setup leaf.entry) rule.Judge after_judge is.judged
+      (passing (is_fit setup shard (session_in leaf.action)) rule.Form after_form is.fit
+      (passing (is_judged setup leaf.action) rule.Judge after_judge is.judged
       (passing (is_result setup shard stand leaf) rule.Result after_result is.result
       (passing head rule.Head None is.head refl))))
 

@@ -1,5 +1,5 @@
 -- What is encoded of objects and of leaves are bytes.
-use Rattle.std.proofs.Common.{ℕ, suc, List, [], ◌∷◌, ◌++◌, length, arith}
+use Rattle.std.proofs.Common.{ℕ, suc, List, [], ◌∷◌, ◌++◌, length, refl, arith}
 use Rattle.std.specs.Int.{w64, w32, to_be_bytes}
 use Rattle.sha2.specs.Sha256.{sha256}
 use Rattle.sha2.proofs.Facts256.{length-sha256}
@@ -12,11 +12,13 @@ use Rattle.cs_tx_types.specs.declared.effect.Effect.TheVariants.{Voted, Accepted
 use Rattle.cs_tx_types.specs.declared.leaf.Leaf.{Leaf}
 use Rattle.cs_tx_types.specs.declared.state.State.TheVariants as state
 use Rattle.cs_tx_types.specs.declared.vote.Vote.TheVariants as vote
+use Rattle.cs_base.specs.declared.version.Version.TheVariants.{One}
 use Rattle.cs_tx_types.specs.Log.{effect_encoding, leaf_encoding, LeafFits}
-use Rattle.cs_tx_types.specs.Session.{entry_encoding}
+use Rattle.cs_tx_types.specs.Session.{action_encoding}
 use Rattle.cs_tx_types.specs.Sized.{sized}
 use Rattle.cs_wire_message.specs.declared.message.Message.TheVariants as message
 use Rattle.cs_wire_message.proofs.Bytes.{bytes-nil, bytes-cons, bytes-append, bytes-32}
+use Rattle.cs_tx_types.specs.Entry.{entry_alone}
 use Rattle.cs_wire_message.proofs.Spelled.{bytes-want, bytes-body, entry-bytes}
 use Rattle.cs_node_law.proofs.Sealing.{bytes-sha256}
 
@@ -30,7 +32,7 @@ behind (byte ∷ front) rest is = behind front rest (λ i. is (suc i))
 -- a message tells of an object under a name
 told_bytes : (name : List ℕ) → DigestFits name → (object : Object) → ObjectFits object → IsBytes (object_encoding object)
 told_bytes name named object fits =
-    let told = bytes-body (message.Told (key.Object name) (state.Active object)) (named, fits) in
+    let told = bytes-body One (message.Told (key.Object name) (state.Active object)) (named, fits) in
     λ i. behind (0 ∷ name) (1 ∷ object_encoding object) told (suc i)
 
 pub object_bytes : (object : Object) → ObjectFits object → IsBytes (object_encoding object)
@@ -48,8 +50,8 @@ sized_bytes : {X : Type 0} (write : X → List ℕ) (x : X) → IsBytes (write x
 unfolding sized
 sized_bytes write x fits = bytes-append (to_be_bytes w32 (length (write x))) (write x) (bytes-32 (length (write x))) fits
 
-pub leaf_bytes : (leaf : Leaf) → LeafFits leaf → IsBytes (leaf_encoding leaf)
+pub leaf_bytes : (leaf : Leaf) → LeafFits One leaf → IsBytes (leaf_encoding One leaf)
 leaf_bytes leaf fits =
-    bytes-append (to_be_bytes w64 leaf.slot) (sized entry_encoding leaf.entry ++ effect_encoding leaf.result) (bytes-want leaf.slot)
-    (bytes-append (sized entry_encoding leaf.entry) (effect_encoding leaf.result)
-    (sized_bytes entry_encoding leaf.entry (entry-bytes leaf.entry fits.entry)) (effect_bytes leaf.result))
+    bytes-append (to_be_bytes w64 leaf.slot) (sized action_encoding leaf.action ++ effect_encoding leaf.result) (bytes-want One leaf.slot)
+    (bytes-append (sized action_encoding leaf.action) (effect_encoding leaf.result)
+    (sized_bytes action_encoding leaf.action (entry-bytes One (entry_alone leaf.action) (refl, (fits.action, tt)))) (effect_bytes leaf.result))

@@ -3,8 +3,8 @@ use Rattle.std.proofs.Common.{ℕ, zero, suc, Bool, true, false, List, [], ◌�
 use Rattle.std.specs.Prelude.{if◌then◌else◌, not, ◌&&◌}
 use Rattle.std.specs.List.{AllByRecursion}
 use Rattle.cs_tx_value.specs.Object.{DigestFits}
-use Rattle.cs_tx_types.specs.declared.entry.Entry.{Entry}
-use Rattle.cs_tx_types.specs.declared.entry.Entry.TheVariants.{Prepare, Decide}
+use Rattle.cs_tx_types.specs.declared.action.Action.{Action}
+use Rattle.cs_tx_types.specs.declared.action.Action.TheVariants.{Prepare, Decide}
 use Rattle.cs_tx_types.specs.declared.session.Session.{Session}
 use Rattle.cs_check_rules.specs.Chain.{Log}
 use Rattle.cs_ledger.specs.Ledger.{Bytes, Transaction}
@@ -32,7 +32,7 @@ tx_more [] tx all is = (is, tt)
 tx_more (first ∷ txs) tx all is = (all.0, tx_more txs tx all.1 is)
 
 module _ (setup : Setup) (named : (x : Session) → DigestFits (setup.session_of x).transaction.digest) where
-  after_fit : (firsts : List Execution) (entry : Entry) (effect : Effect) (earlier : List Transaction)
+  after_fit : (firsts : List Execution) (entry : Action) (effect : Effect) (earlier : List Transaction)
       → AllByRecursion DigestFits (tx_digests earlier) → AllByRecursion DigestFits (tx_digests (told_after setup firsts entry effect earlier))
   after_fit firsts (Decide vote x) effect earlier all = all
   after_fit firsts (Prepare x) effect earlier all = by (is_voted effect && (all_recorded setup firsts x && not (is_listed (setup.session_of x).transaction earlier)))

@@ -2,8 +2,8 @@
 use Rattle.std.proofs.Common.{◌≡◌, inl, inr, ℕ, true, false, ◌&&◌, List, [], ◌∷◌, refl, sym, ap, subst, ◌∙◌}
 use Rattle.std.proofs.lemmas.Bool.{and_parts, and_from, or_cases, both_ways}
 use Rattle.cs_base.specs.Lists.{IsIn}
-use Rattle.cs_tx_types.specs.declared.entry.Entry.{Entry}
-use Rattle.cs_tx_types.specs.declared.entry.Entry.TheVariants.{Prepare, Decide}
+use Rattle.cs_tx_types.specs.declared.action.Action.{Action}
+use Rattle.cs_tx_types.specs.declared.action.Action.TheVariants.{Prepare, Decide}
 use Rattle.cs_tx_types.specs.declared.vote.Vote.TheVariants as vote
 use Rattle.cs_ledger.specs.Ledger.{Bytes}
 use Rattle.cs_ledger.specs.Session as Seen
@@ -52,7 +52,7 @@ module _ (rules : Rules) (past : List Step) (shard : ℕ) (x : Seen.Session) (v 
       let same : x ≡ has.x = apart x has.x (inl refl) (inr has.within) has.digest in
       ap (well_formed rules) same ∙ has.formed
 
-entry_fits : (setup : Setup) (past : List Step) (shard : ℕ) (entry : Entry) → AllAllowed setup.rules past → IsAllowed setup.rules past shard (entry_of setup entry)
+entry_fits : (setup : Setup) (past : List Step) (shard : ℕ) (entry : Action) → AllAllowed setup.rules past → IsAllowed setup.rules past shard (entry_of setup entry)
     → AreToldApart (sessions (record { shard = shard; entry = entry_of setup entry } ∷ past)) → is_fit setup shard (session_in entry) ≡ true
 entry_fits setup past shard (Prepare x) allowed is apart = and_from _ _ is.0 is.1
 entry_fits setup past shard (Decide vote.Commit x) allowed is apart =
@@ -65,11 +65,11 @@ entry_fits setup past shard (Decide vote.Abort x) allowed is apart =
     let item = one_at setup.rules past seen Abort (all_items seen.transaction) is.1 in
     and_from _ _ (decided_formed setup.rules past shard seen Abort allowed apart (setup.rules.shard_of item.0.name) Abort item.2) is.0
 
-pub step_fits : (setup : Setup) (past : List Step) (shard : ℕ) (entry : Entry) → AllAllowed setup.rules (record { shard = shard; entry = entry_of setup entry } ∷ past)
+pub step_fits : (setup : Setup) (past : List Step) (shard : ℕ) (entry : Action) → AllAllowed setup.rules (record { shard = shard; entry = entry_of setup entry } ∷ past)
     → AreToldApart (sessions (record { shard = shard; entry = entry_of setup entry } ∷ past)) → is_fit setup shard (session_in entry) ≡ true
 step_fits setup past shard entry allowed apart = entry_fits setup past shard entry allowed.1 allowed.0 apart
 
 -- what is voted on is approved
-pub step_judged : (setup : Setup) (past : List Step) (shard : ℕ) (entry : Entry) → IsAllowed setup.rules past shard (entry_of setup entry) → is_judged setup entry ≡ true
+pub step_judged : (setup : Setup) (past : List Step) (shard : ℕ) (entry : Action) → IsAllowed setup.rules past shard (entry_of setup entry) → is_judged setup entry ≡ true
 step_judged setup past shard (Prepare x) is = is.2
 step_judged setup past shard (Decide v x) is = refl

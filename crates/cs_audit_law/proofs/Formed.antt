@@ -4,6 +4,7 @@ use Rattle.std.specs.List.{All, AllByRecursion}
 use Rattle.std.proofs.lemmas.List.Elements.{All-nil, All-push, recursion_from_All}
 use Rattle.cs_base.specs.Fields.{IsBytes}
 use Rattle.cs_tx_types.specs.declared.session.Session.{Session}
+use Rattle.cs_base.specs.declared.version.Version.TheVariants.{One}
 use Rattle.cs_tx_types.specs.Log.{leaf_encoding, LeafFits}
 use Rattle.cs_tx_value.specs.Object.{object_encoding, ObjectFits, DigestFits}
 use Rattle.cs_node_state.specs.Setup.{Setup}
@@ -29,12 +30,12 @@ all_bytes Fits write bytes (x ∷ xs) fits = (bytes x fits.0, all_bytes Fits wri
 -- ---- logs
 
 module _ (setup : Setup) (firsts : List Execution) where
-  log_formed : (shard : ℕ) → All LeafFits (dumped_leaves shard firsts) → IsFormedLog (dumped_log setup firsts shard)
+  log_formed : (shard : ℕ) → All (LeafFits One) (dumped_leaves shard firsts) → IsFormedLog (dumped_log setup firsts shard)
   log_formed shard fits = record { leaves = fits; heads = heads_there setup firsts shard }
 
-  log_encoded : (shard : ℕ) → All LeafFits (dumped_leaves shard firsts) → length (dumped_leaves shard firsts) < 2 ^ 64 → IsEncodedLog (dumped_log setup firsts shard)
+  log_encoded : (shard : ℕ) → All (LeafFits One) (dumped_leaves shard firsts) → length (dumped_leaves shard firsts) < 2 ^ 64 → IsEncodedLog (dumped_log setup firsts shard)
   log_encoded shard fits few = record {
-    leaves = all_bytes LeafFits leaf_encoding leaf_bytes (dumped_leaves shard firsts) (recursion_from_All LeafFits (dumped_leaves shard firsts) fits);
+    leaves = all_bytes (LeafFits One) (leaf_encoding One) leaf_bytes (dumped_leaves shard firsts) (recursion_from_All (LeafFits One) (dumped_leaves shard firsts) fits);
     heads = heads_fit (dumped_stand setup shard firsts).log (length (dumped_stand setup shard firsts).log.table_roots);
     slots = few;
   }
@@ -59,7 +60,7 @@ schedule_dump schedule setup firsts = record {
 
 module _ (schedule : Schedule) (playable : IsPlayable schedule) (setup : Setup) (shards : setup.shards ≡ schedule.config.shards) (firsts : List Execution)
     (limit : ℕ) (low : limit < 2 ^ 64) (small : length (printed_dump (schedule_dump schedule setup firsts)) ≤ limit)
-    (leaves : (shard : ℕ) → length (dumped_leaves shard firsts) ≤ 2 ^ 64 → All LeafFits (dumped_leaves shard firsts)) where
+    (leaves : (shard : ℕ) → length (dumped_leaves shard firsts) ≤ 2 ^ 64 → All (LeafFits One) (dumped_leaves shard firsts)) where
   abbrev dump : Dump
   dump = schedule_dump schedule setup firsts
 
@@ -69,11 +70,12 @@ module _ (schedule : Schedule) (playable : IsPlayable schedule) (setup : Setup) 
       let within = logs_within dump limit small in
       omega arith
 
-  fits : (shard : ℕ) → shard < setup.shards → All LeafFits (dumped_leaves shard firsts)
+  fits : (shard : ℕ) → shard < setup.shards → All (LeafFits One) (dumped_leaves shard firsts)
   fits shard less = leaves shard (omega (arith, few shard less))
 
   pub formed : IsFormed dump
   formed = record {
+    version = playable.version;
     contracts = playable.contracts;
     few_contracts = playable.few_contracts;
     objects = playable.objects;

@@ -4,8 +4,8 @@ use Rattle.std.specs.Prelude.{not, bytes_eq, if◌then◌else◌}
 use Rattle.std.specs.List.{flat_map}
 use Rattle.std.proofs.lemmas.Bool.{cases_lt, and_parts, both_ways, eq-eqb}
 use Rattle.cs_base.specs.Lists.{IsIn}
-use Rattle.cs_tx_types.specs.declared.entry.Entry.{Entry}
-use Rattle.cs_tx_types.specs.declared.entry.Entry.TheVariants.{Prepare, Decide}
+use Rattle.cs_tx_types.specs.declared.action.Action.{Action}
+use Rattle.cs_tx_types.specs.declared.action.Action.TheVariants.{Prepare, Decide}
 use Rattle.cs_tx_types.specs.declared.session.Session.{Session}
 use Rattle.cs_tx_types.specs.declared.leaf.Leaf.{Leaf}
 use Rattle.cs_ledger.specs.Ledger.{Bytes, Transaction, has, all_differ, Serial, genesis_ledger}
@@ -51,7 +51,7 @@ told_differ : (setup : Setup) (firsts : List Execution) → all_differ (digests 
 told_differ setup [] = refl
 told_differ setup (e ∷ earlier) = by e.entry (told_differ setup earlier)
   where
-    by : (entry : Entry) → all_differ (digests (told_transactions setup earlier)) ≡ true → all_differ (digests (told_after setup (e ∷ earlier) entry e.effect (told_transactions setup earlier))) ≡ true
+    by : (entry : Action) → all_differ (digests (told_transactions setup earlier)) ≡ true → all_differ (digests (told_after setup (e ∷ earlier) entry e.effect (told_transactions setup earlier))) ≡ true
     by (Decide vote x) before = before
     by (Prepare x) before = add (is_voted e.effect && (all_recorded setup (e ∷ earlier) x && not (is_listed (setup.session_of x).transaction (told_transactions setup earlier)))) refl
       where
@@ -98,7 +98,7 @@ allowed_at : (setup : Setup) (later : List Execution) (e : Execution) (earlier :
 allowed_at setup [] e earlier all = all.0
 allowed_at setup (first ∷ later) e earlier all = allowed_at setup later e earlier all.1
 
-prepared_is : (entry : Entry) (x : Session) → IsIn x (prepared_session entry) → entry ≡ Prepare x
+prepared_is : (entry : Action) (x : Session) → IsIn x (prepared_session entry) → entry ≡ Prepare x
 prepared_is (Prepare y) x (inl same) = ap Prepare (sym same)
 prepared_is (Prepare y) x (inr none) = absurd none
 prepared_is (Decide vote y) x none = absurd none
@@ -119,7 +119,7 @@ module _ (setup : Setup) (bound : (name : Bytes) → setup.rules.shard_of name <
     pub is : e.entry ≡ Prepare x
 
   abbrev of_leaf : Leaf → List Session
-  of_leaf leaf = prepared_session leaf.entry
+  of_leaf leaf = prepared_session leaf.action
 
   from_logs : (x : Session) → IsIn x (sessions_in_logs logs) → HasPrepare x
   from_logs x within =
@@ -132,7 +132,7 @@ module _ (setup : Setup) (bound : (name : Bytes) → setup.rules.shard_of name <
         e = from.e;
         earlier = from.earlier;
         split = from.split;
-        is = sym (ap (λ (l : Leaf). l.entry) from.leaf_is) ∙ prepared_is leaf.entry x here;
+        is = sym (ap (λ (l : Leaf). l.action) from.leaf_is) ∙ prepared_is leaf.action x here;
       }
 
   seen_in : (x : Session) → HasPrepare x → IsIn (setup.session_of x) (sessions (steps_of setup firsts))
@@ -185,7 +185,7 @@ module _ (setup : Setup) (bound : (name : Bytes) → setup.rules.shard_of name <
   told_committed later (e ∷ earlier) split tx within =
       by e.entry refl (λ there. told_committed (later ++ e ∷ []) earlier (split ∙ sym (append_assoc later (e ∷ []) earlier)) tx there) within
     where
-      by : (entry : Entry) → e.entry ≡ entry → (IsIn tx (told_transactions setup earlier) → IsCommitted tx) → IsIn tx (told_after setup (e ∷ earlier) entry e.effect (told_transactions setup earlier)) → IsCommitted tx
+      by : (entry : Action) → e.entry ≡ entry → (IsIn tx (told_transactions setup earlier) → IsCommitted tx) → IsIn tx (told_after setup (e ∷ earlier) entry e.effect (told_transactions setup earlier)) → IsCommitted tx
       by (Decide vote x) is before there = before there
       by (Prepare x) is before there = add (is_voted e.effect && (all_recorded setup (e ∷ earlier) x && not (is_listed (tx_of x) (told_transactions setup earlier)))) refl there
         where

@@ -6,7 +6,7 @@ use Rattle.std.proofs.lemmas.Bool.{cases_lt, ltb-true, ltb-false, eqb-true}
 use Rattle.std.proofs.lemmas.List.{length_push}
 use Rattle.cs_base.specs.declared.node_id.NodeId.{NodeId}
 use Rattle.cs_base.specs.NodeId.{members_below}
-use Rattle.cs_tx_types.specs.declared.entry.Entry.{Entry}
+use Rattle.cs_tx_types.specs.declared.action.Action.{Action}
 use Rattle.cs_tx_types.specs.declared.leaf.Leaf.{Leaf}
 use Rattle.cs_base.specs.Lists.{IsIn}
 use Rattle.cs_ledger.specs.Table.{Table, exec}
@@ -51,7 +51,7 @@ core_is {M} site me (Plain (Did slot place entry effect) ∷ t) =
     ap (λ (k : Core). core_after site.setup (view_at site me t).me.shard k entry) (core_is site me t)
     ∙ ap (λ (n : NodeId). core_after site.setup n.shard (core_by site.setup me.shard (log_in (signs_of t))) entry) (me-same site me t)
 
-count_by : (setup : Setup) (shard : ℕ) (entries : List Entry) → length (LogBy setup shard entries).leaves ≡ length entries
+count_by : (setup : Setup) (shard : ℕ) (entries : List Action) → length (LogBy setup shard entries).leaves ≡ length entries
 count_by setup shard [] = refl
 count_by setup shard (entry ∷ past) =
     let before = count_by setup shard past in
@@ -63,10 +63,11 @@ module _ (setup : Setup) (shard : ℕ) where
   abbrev core_in : Stand → Core
   core_in s = (s.table, (s.keys, s.log))
 
-  abbrev leaf_after : Core → Entry → Leaf
+  abbrev leaf_after : Core → Action → Leaf
   leaf_after core entry = record {
     slot = length core.1.1.leaves;
-    entry = entry;
+    place = 0;
+    action = entry;
     result = effect_from (exec setup.rules shard core.0 (entry_of setup entry)).effect;
   }
 
@@ -86,7 +87,7 @@ module _ (setup : Setup) (shard : ℕ) where
           let effect_is : e.effect ≡ effect_after setup earlier shard e.entry = subst (λ n. e.effect ≡ effect_after setup earlier n e.entry) here computed.0.effect in
           let comes : e.effect ≡ (exec setup.rules shard stand.table (entry_of setup e.entry)).effect =
           effect_is ∙ ap (λ (t : Table). (exec setup.rules shard t (entry_of setup e.entry)).effect) (sym (table_there setup shard earlier)) in
-          let leaf_is : leaf_by e ≡ leaf_after (core_in stand) e.entry = λ i. record { slot = slot_is i; entry = e.entry; result = effect_from (comes i) } in
+          let leaf_is : leaf_by e ≡ leaf_after (core_in stand) e.entry = λ i. record { slot = slot_is i; place = 0; action = e.entry; result = effect_from (comes i) } in
           ap core_in (after_one setup shard (start_stand setup shard) (dumped_leaves shard earlier) (leaf_by e))
           ∙ ap (λ (leaf : Leaf). core_in (after_leaf setup shard stand leaf)) leaf_is
           ∙ ap (λ (k : Core). core_after setup shard k e.entry) same
@@ -129,7 +130,7 @@ longest_is first (log ∷ logs) = by (nat_lt (length first.leaves) (length log.l
 
 -- ---- the logs of a shard
 
-older_none : (entries : List Entry) → older 0 entries ≡ []
+older_none : (entries : List Action) → older 0 entries ≡ []
 older_none [] = refl
 older_none (entry ∷ entries) = older-drop 0 entry entries (omega arith) ∙ older_none entries
 
@@ -160,21 +161,21 @@ module _ {M : Type 0} (site : Site M) (world : List (Happening M)) where
   in_logs i (j ∷ names) (inl same) = inl (ap (λ (z : NodeId). (view_of site world z).bench.log) same)
   in_logs i (j ∷ names) (inr later) = inr (in_logs i names later)
 
-  abbrev entries_at : NodeId → List Entry
+  abbrev entries_at : NodeId → List Action
   entries_at i = log_in (signs_at i world)
 
   log_by : (i : NodeId) → (view_of site world i).bench.log ≡ LogBy site.setup i.shard (entries_at i)
   log_by i = ap (λ (k : Core). k.1.1) (core_is site i (trail_of i world))
 
   -- an honest node that has executed all of its shard
-  pub record HasAll (shard : ℕ) (all : List Entry) : Type 0 where
+  pub record HasAll (shard : ℕ) (all : List Action) : Type 0 where
     pub node : NodeId
     pub honest : is_honest site node ≡ true
     pub here : node.shard ≡ shard
     pub index : node.index < 3 * site.setup.f + 1
     pub enough : length all ≤ length (entries_at node)
 
-  module _ (shard : ℕ) (all : List Entry)
+  module _ (shard : ℕ) (all : List Action)
       (parts : (i : NodeId) → is_honest site i ≡ true → i.shard ≡ shard → IsOlder (entries_at i) all)
       (source : 0 < length all → HasAll shard all) where
     abbrev names : List NodeId
@@ -182,7 +183,7 @@ module _ {M : Type 0} (site : Site M) (world : List (Happening M)) where
 
     -- each log is that of a part
     record IsPartLog (found : Log) : Type 0 where
-      pub part : List Entry
+      pub part : List Action
       pub is : found ≡ LogBy site.setup shard part
       pub older : IsOlder part all
 

@@ -11,6 +11,7 @@ use Rattle.cs_base.specs.declared.config.Config.{Config}
 use Rattle.cs_tx_value.specs.Object.{object_encoding}
 use Rattle.cs_tx_value.specs.declared.object.Object.{Object}
 use Rattle.cs_tx_types.specs.declared.leaf.Leaf.{Leaf}
+use Rattle.cs_base.specs.declared.version.Version.TheVariants.{One}
 use Rattle.cs_tx_types.specs.Log.{leaf_encoding}
 use Rattle.cs_ledger.specs.Ledger.{Bytes, Item, Transaction}
 use Rattle.cs_check_rules.specs.Chain.{Log as ChainLog}
@@ -47,8 +48,8 @@ number_same : (n : ℕ) → (line_text (number_words (codes "shards") n) ≡ num
     × (line_text (number_words (codes "dummies") n) ≡ number_line (codes "dummies ") n)
 number_same n = (one_field (codes "shards") (decimal n), one_field (codes "faulty") (decimal n), one_field (codes "dummies") (decimal n))
 
-leaf_same : (leaf : Leaf) → line_text (leaf_words leaf) ≡ dumped_leaf (leaf_encoding leaf)
-leaf_same leaf = one_field (codes "leaf") (bytes_text (leaf_encoding leaf))
+leaf_same : (leaf : Leaf) → line_text (leaf_words leaf) ≡ dumped_leaf (leaf_encoding One leaf)
+leaf_same leaf = one_field (codes "leaf") (bytes_text (leaf_encoding One leaf))
 
 head_same : (head : Bytes) → line_text (head_words head) ≡ dumped_head head
 head_same head = one_field (codes "head") (bytes_text head)
@@ -62,14 +63,14 @@ flat-map line change (x ∷ xs) = ap (λ (text : List ℕ). line (change x) ++ t
 
 -- ---- logs
 
-log_same : (shard : ℕ) (log : Log) (chain : ChainLog) → chain.leaves ≡ map leaf_encoding log.leaves → all_heads chain ≡ log.heads
+log_same : (shard : ℕ) (log : Log) (chain : ChainLog) → chain.leaves ≡ map (leaf_encoding One) log.leaves → all_heads chain ≡ log.heads
     → each line_text (log_lines shard log) ≡ log_text shard chain
 log_same shard log chain leaves heads =
     let leaf_part : each line_text (map leaf_words log.leaves) ≡ flat_map dumped_leaf chain.leaves =
-    each-same line_text leaf_words (λ leaf. dumped_leaf (leaf_encoding leaf)) leaf_same log.leaves ∙ sym (flat-map dumped_leaf leaf_encoding log.leaves) ∙ ap (flat_map dumped_leaf) (sym leaves) in
+    each-same line_text leaf_words (λ leaf. dumped_leaf (leaf_encoding One leaf)) leaf_same log.leaves ∙ sym (flat-map dumped_leaf (leaf_encoding One) log.leaves) ∙ ap (flat_map dumped_leaf) (sym leaves) in
     let head_part : each line_text (map head_words log.heads) ≡ flat_map dumped_head (all_heads chain) =
     each-same line_text head_words dumped_head head_same log.heads ∙ ap (flat_map dumped_head) (sym heads) in
-    let count : length log.leaves ≡ length chain.leaves = sym (length-map log.leaves leaf_encoding) ∙ ap length (sym leaves) in
+    let count : length log.leaves ≡ length chain.leaves = sym (length-map log.leaves (leaf_encoding One)) ∙ ap length (sym leaves) in
     let rest : each line_text (map leaf_words log.leaves ++ map head_words log.heads) ≡ flat_map dumped_leaf chain.leaves ++ flat_map dumped_head (all_heads chain) =
     each-append line_text (map leaf_words log.leaves) (map head_words log.heads) ∙ (λ i. leaf_part i ++ head_part i) in
     let first : line_text (log_words shard (length log.leaves)) ≡ codes "log " ++ (decimal shard ++ (codes " " ++ (decimal (length log.leaves) ++ codes "\n"))) =
@@ -93,7 +94,7 @@ logs-end shard (first ∷ logs) log =
     ∙ sym (append_assoc (log_lines shard first) (logs_lines (shard + 1) logs) (log_lines (shard + length (first ∷ logs)) log))
 
 module _ {M : Type 0} (site : Site M) (world : List (Happening M)) (dumps : DumpsFirsts site world)
-    (leaves : (shard : ℕ) → (dumped_stand site.setup shard (firsts_of world)).log.leaves ≡ map leaf_encoding (dumped_leaves shard (firsts_of world))) where
+    (leaves : (shard : ℕ) → (dumped_stand site.setup shard (firsts_of world)).log.leaves ≡ map (leaf_encoding One) (dumped_leaves shard (firsts_of world))) where
   logs_same : (n : ℕ) → each line_text (logs_lines 0 (dumped_logs site.setup (firsts_of world) n)) ≡ logs_text site world n
   logs_same zero = refl
   logs_same (suc n) =

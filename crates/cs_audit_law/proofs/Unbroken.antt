@@ -4,6 +4,7 @@ use Rattle.std.specs.Prelude.{if◌then◌else◌}
 use Rattle.std.proofs.lemmas.Bool.{eqb-true}
 use Rattle.std.proofs.lemmas.List.{length_push}
 use Rattle.cs_tx_types.specs.declared.leaf.Leaf.{Leaf}
+use Rattle.cs_base.specs.declared.version.Version.TheVariants.{One}
 use Rattle.cs_tx_types.specs.Log.{leaf_encoding}
 use Rattle.cs_ledger.specs.Session as Seen
 use Rattle.cs_ledger.proofs.Strings.{no_collision_within}
@@ -74,7 +75,7 @@ module _ (setup : Setup) (shard : ℕ) where
   start = start_stand setup shard
 
   abbrev keys_of : Stand → Leaf → List Seen.Key
-  keys_of stand leaf = keys_after setup.rules shard stand.table (entry_of setup leaf.entry) stand.keys
+  keys_of stand leaf = keys_after setup.rules shard stand.table (entry_of setup leaf.action) stand.keys
 
   abbrev root_of : Stand → Leaf → List ℕ
   root_of stand leaf = root_under (keys_of stand leaf) (outcome_of setup shard stand.table leaf).table
@@ -103,7 +104,7 @@ module _ (setup : Setup) (shard : ℕ) where
   roots_there : (stand : Stand) (leaves : List Leaf) → HasRoots stand.log → HasRoots (after_leaves setup shard stand leaves).log
   roots_there stand [] has = has
   roots_there stand (leaf ∷ leaves) has =
-      roots_there (after_leaf setup shard stand leaf) leaves (roots_slot stand.log (leaf_encoding leaf) (root_of stand leaf) has)
+      roots_there (after_leaf setup shard stand leaf) leaves (roots_slot stand.log (leaf_encoding One leaf) (root_of stand leaf) has)
 
   -- the last step of the shard passes
   last_passes : (final : ChainLog) (e : Execution) (earlier : List Execution) → e.shard ≡ shard → AreSteps setup (e ∷ earlier)
@@ -120,15 +121,15 @@ module _ (setup : Setup) (shard : ℕ) where
       let next_slot : e.slot ≡ count_executed shard earlier = subst (λ n. e.slot ≡ count_executed n earlier) here (slot-counted setup e earlier are.computed) in
       let effect_is : e.effect ≡ effect_after setup earlier shard e.entry = subst (λ n. e.effect ≡ effect_after setup earlier n e.entry) here came.effect in
       let rooted : HasRoots stand.log = roots_there start leaves refl in
-      let one_more_leaf = length-append stand.log.leaves (leaf_encoding (leaf_by e) ∷ []) in
+      let one_more_leaf = length-append stand.log.leaves (leaf_encoding One (leaf_by e) ∷ []) in
       record {
         slot = omega arith;
         fit = subst (λ n. is_fit setup n (session_in e.entry) ≡ true) here (step_fits setup past e.shard e.entry are.allowed are.apart.session);
         judged = step_judged setup past e.shard e.entry are.allowed.0;
         result = effect_from_same (effect_of (effect_from e.effect)) (outcome_of setup shard stand.table (leaf_by e)).effect
             (effect_back e.effect ∙ effect_is ∙ ap (λ (t : Table). (exec setup.rules shard t (entry_of setup e.entry)).effect) (sym (table_there earlier)));
-        head = head_told next.log final (roots_slot stand.log (leaf_encoding (leaf_by e)) (root_of stand (leaf_by e)) rooted)
-            (let some : 0 < length (stand.log.leaves ++ leaf_encoding (leaf_by e) ∷ []) = omega arith in some) grows;
+        head = head_told next.log final (roots_slot stand.log (leaf_encoding One (leaf_by e)) (root_of stand (leaf_by e)) rooted)
+            (let some : 0 < length (stand.log.leaves ++ leaf_encoding One (leaf_by e) ∷ []) = omega arith in some) grows;
       }
 
   unbroken : (final : ChainLog) (firsts : List Execution) → AreSteps setup firsts → Grows (dumped_stand setup shard firsts).log final
@@ -145,7 +146,7 @@ module _ (setup : Setup) (shard : ℕ) where
           let next = after_leaf setup shard stand (leaf_by e) in
           let is = after_one setup shard start (dumped_leaves shard earlier) (leaf_by e) in
           let grows_next : Grows next.log final = subst (λ (s : Stand). Grows s.log final) is grows_here in
-          let first : Grows stand.log next.log = grows_slot stand.log (leaf_encoding (leaf_by e)) (root_of stand (leaf_by e)) in
+          let first : Grows stand.log next.log = grows_slot stand.log (leaf_encoding One (leaf_by e)) (root_of stand (leaf_by e)) in
           one_more setup shard (all_heads final) start (dumped_leaves shard earlier) (leaf_by e)
           (before (grows_on stand.log next.log final first grows_next))
           (last_passes final e earlier (eqb-true e.shard shard here) are grows_next)

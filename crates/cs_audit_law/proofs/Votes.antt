@@ -42,7 +42,7 @@ any-from test (y ∷ xs) x (inr within) is = or_right _ _ (any-from test xs x wi
 
 module _ (setup : Setup) (vote : Vote) (d : Bytes) where
   abbrev votes_so : Leaf → Bool
-  votes_so leaf = prepares setup d leaf.entry && is_vote vote (effect_of leaf.result)
+  votes_so leaf = prepares setup d leaf.action && is_vote vote (effect_of leaf.result)
 
   same_vote : (e : Execution) → votes_so (leaf_by e) ≡ (prepares setup d e.entry && is_vote vote e.effect)
   same_vote e = ap (λ f. prepares setup d e.entry && is_vote vote f) (effect_back e.effect)

@@ -1,7 +1,7 @@
 -- What is dumped of a world are the logs of its first executions.
 use Rattle.std.proofs.Common.{◌≡◌, ℕ, ◌<◌, ◌-◌, true, List, [], length, refl, sym, ap, subst, ◌∙◌, arith, Some, ◌≤◌, ◌^◌}
 use Rattle.cs_base.specs.declared.node_id.NodeId.{NodeId}
-use Rattle.cs_tx_types.specs.declared.entry.Entry.{Entry}
+use Rattle.cs_tx_types.specs.declared.action.Action.{Action}
 use Rattle.cs_order.specs.Deeds.{Machine}
 use Rattle.cs_node_rules.specs.Collisions.{NoCollision}
 use Rattle.cs_node_rules.specs.Site.{Mark, Site, signs_of}
@@ -15,8 +15,9 @@ use Rattle.cs_world_law.proofs.Older.{IsOlder, at-some, at-below}
 use Rattle.cs_world_law.proofs.Firsts.{own_log, are-first, counted-entries}
 use Rattle.cs_world_law.proofs.SameHeads.{Core}
 use Rattle.cs_world_law.proofs.Whole.{IsPlace, At, Here, sound, story, came, lawful-here}
+use Rattle.cs_base.specs.declared.version.Version.TheVariants.{One}
 use Rattle.cs_tx_types.specs.Log.{LeafFits}
-use Rattle.cs_tx_types.specs.Session.{EntryFits}
+use Rattle.cs_tx_types.specs.Session.{ActionFits}
 use Rattle.cs_world_law.specs.Worlds.{ExecutesFit}
 use Rattle.cs_world_law.proofs.Older.{at_slot}
 use Rattle.std.specs.List.{All}
@@ -33,13 +34,13 @@ no_first {M} site shard =
     longest_whole site [] shard [] (λ i honest here. record { shorter = omega arith; is = refl }) (λ some. absurd (omega arith))
 
 pub no_leaf : {M : Type 0} (site : Site M) → LeavesFit site []
-no_leaf {M} site fit shard few = All-nil LeafFits
+no_leaf {M} site fit shard few = All-nil (LeafFits One)
 
 module _ {M : Type 0} (machine : Machine M) (p : IsPlace machine) (some : 0 < p.config.shards) (apart : NoCollision (At machine p) p.genesis p.world) where
   abbrev site : Site M
   site = At machine p
 
-  abbrev all_of : ℕ → List Entry
+  abbrev all_of : ℕ → List Action
   all_of shard = Chain.shard_entries shard (firsts_of p.world)
 
   entries_same : (i : NodeId) → own_log i (moments p.world) ≡ log_in (signs_at i p.world)
@@ -78,7 +79,7 @@ module _ {M : Type 0} (machine : Machine M) (p : IsPlace machine) (some : 0 < p.
       ∙ sym (ap (λ (k : Core). k.1.1) (stand_core site.setup shard (firsts_of p.world) (came machine p some (lawful-here machine p some apart))))
 
   -- each entry of a shard was executed by a node, so it has an encoding
-  entry_fits : ExecutesFit site p.world → (shard slot : ℕ) (entry : Entry) → at_slot (all_of shard) slot ≡ Some entry → EntryFits entry
+  entry_fits : ExecutesFit site p.world → (shard slot : ℕ) (entry : Action) → at_slot (all_of shard) slot ≡ Some entry → ActionFits entry
   entry_fits fit shard slot entry is =
       let first = are-first site (sound machine p some) (Here machine p) (lawful-here machine p some apart) shard (moments p.world) (story machine p some) in
       let from = first.from slot entry (ap (λ all. at_slot all slot) (sym (all_same shard)) ∙ is) in

@@ -1,6 +1,7 @@
 -- That such logs break no rule.
 use Rattle.std.specs.Prelude.{◌≡◌, ◌<◌, ◌≤◌, ◌^◌, ℕ, List, [], length, map, None}
 use Rattle.std.specs.List.{All}
+use Rattle.cs_base.specs.declared.version.Version.TheVariants.{One}
 use Rattle.cs_tx_types.specs.Log.{LeafFits}
 use Rattle.cs_ledger.specs.Ledger.{Bytes, genesis_ledger}
 use Rattle.cs_ledger.specs.ShardWorld.{AllAllowed, AreNamedApart, sessions}
@@ -64,4 +65,4 @@ DumpsFirsts {M} site world =
 abbrev pub LeavesFit : {M : Type 0} → Site M → List (Happening M) → Type 0
 LeavesFit {M} site world =
     ExecutesFit site world → (shard : ℕ) → let leaves = dumped_leaves shard (firsts_of world) in
-    length leaves ≤ 2 ^ 64 → All LeafFits leaves
+    length leaves ≤ 2 ^ 64 → All (LeafFits One) leaves

@@ -3,9 +3,10 @@ use Rattle.std.proofs.Common.{◌≡◌, inl, inr, ℕ, ◌+◌, ◌-◌, ◌*�
 use Rattle.std.specs.Prelude.{not, if◌then◌else◌, slice_get, option_map}
 use Rattle.std.proofs.lemmas.Bool.{and_parts, eqb-true, eqb-false, cases_lt, lt-ltb, le-ltb}
 use Rattle.std.proofs.lemmas.Option.{slice_get_past}
-use Rattle.cs_tx_types.specs.declared.entry.Entry.{Entry}
-use Rattle.cs_tx_types.specs.declared.entry.Entry.TheVariants.{Prepare, Decide}
+use Rattle.cs_tx_types.specs.declared.action.Action.{Action}
+use Rattle.cs_tx_types.specs.declared.action.Action.TheVariants.{Prepare, Decide}
 use Rattle.cs_tx_types.specs.declared.leaf.Leaf.{Leaf}
+use Rattle.cs_base.specs.declared.version.Version.TheVariants.{One}
 use Rattle.cs_tx_types.specs.Log.{leaf_encoding}
 use Rattle.cs_ledger.specs.Ledger.{Bytes}
 use Rattle.cs_ledger.specs.Session as Seen
@@ -65,7 +66,7 @@ pub just_same : (bytes : Bytes) (found : Option Bytes) → is_just bytes found �
 just_same bytes None is = absurd cc
 just_same bytes (Some other) is = ap Some (sym (same_bytes bytes other is))
 
-judged_so : (setup : Setup) (entry : Entry) → is_judged setup entry ≡ true → IsJudged setup entry
+judged_so : (setup : Setup) (entry : Action) → is_judged setup entry ≡ true → IsJudged setup entry
 judged_so setup (Prepare x) is = is
 judged_so setup (Decide vote x) is = tt
 
@@ -73,8 +74,8 @@ module _ (setup : Setup) (shard : ℕ) where
   -- a leaf that breaks no rule
   pub record Passes (heads : List Bytes) (stand : Stand) (leaf : Leaf) : Type 0 where
     pub slot : leaf.slot ≡ length stand.log.leaves
-    pub fit : is_fit setup shard (session_in leaf.entry) ≡ true
-    pub judged : is_judged setup leaf.entry ≡ true
+    pub fit : is_fit setup shard (session_in leaf.action) ≡ true
+    pub judged : is_judged setup leaf.action ≡ true
     pub result : is_result setup shard stand leaf ≡ true
     pub head : is_head heads (made_last (after_leaf setup shard stand leaf).log) ≡ true
 
@@ -83,11 +84,11 @@ module _ (setup : Setup) (shard : ℕ) where
       let head = is_head heads (made_last (after_leaf setup shard stand leaf).log) in
       let after_result = if not head then Some rule.Head else None in
       let after_judge = if not (is_result setup shard stand leaf) then Some rule.Result else after_result in
-      let after_form = if not (is_judged setup leaf.entry) then Some rule.Judge else after_judge in
-      let after_slot = if not (is_fit setup shard (session_in leaf.entry)) then Some rule.Form else after_form in
+      let after_form = if not (is_judged setup leaf.action) then Some rule.Judge else after_judge in
+      let after_slot = if not (is_fit setup shard (session_in leaf.action)) then Some rule.Form else after_form in
       let slot = passed (leaf.slot == length stand.log.leaves) rule.Slot after_slot is in
-      let form = passed (is_fit setup shard (session_in leaf.entry)) rule.Form after_form slot.1 in
-      let judge = passed (is_judged setup leaf.entry) rule.Judge after_judge form.1 in
+      let form = passed (is_fit setup shard (session_in leaf.action)) rule.Form after_form slot.1 in
+      let judge = passed (is_judged setup leaf.action) rule.Judge after_judge form.1 in
       let result = passed (is_result setup shard stand leaf) rule.Result after_result judge.1 in
       record {
         slot = eqb-true leaf.slot (length stand.log.leaves) slot.0;
@@ -112,7 +113,7 @@ module _ (setup : Setup) (shard : ℕ) where
       unbroken_at heads next before leaf later (neither_there first rest none).1
 
   table_stands : (stand : Stand) (leaves : List Leaf)
-      → (after_leaves setup shard stand leaves).table ≡ table_after setup.rules shard stand.table (map (λ leaf. entry_of setup leaf.entry) leaves)
+      → (after_leaves setup shard stand leaves).table ≡ table_after setup.rules shard stand.table (map (λ leaf. entry_of setup leaf.action) leaves)
   table_stands stand [] = refl
   table_stands stand (leaf ∷ leaves) = table_stands (after_leaf setup shard stand leaf) leaves
 
@@ -127,14 +128,14 @@ module _ (setup : Setup) (shard : ℕ) where
       → IsSoundLeaf setup shard before leaf
   leaf_sound heads before leaf is =
       let start = start_stand setup shard in
-      let x = setup.session_of (session_in leaf.entry) in
-      let fit = and_parts (Seen.well_formed setup.rules x) (is_concerned_shard setup (session_in leaf.entry) shard) is.fit in
+      let x = setup.session_of (session_in leaf.action) in
+      let fit = and_parts (Seen.well_formed setup.rules x) (is_concerned_shard setup (session_in leaf.action) shard) is.fit in
       let same = table_stands start before in
       record {
         slot = is.slot ∙ count_stands start before ∙ (let zero_first : 0 + length before ≡ length before = omega arith in zero_first);
         formed = fit.0;
         concerned = fit.1;
-        judged = judged_so setup leaf.entry is.judged;
+        judged = judged_so setup leaf.action is.judged;
         result = effect_same (effect_of leaf.result) (outcome_of setup shard (after_leaves setup shard start before).table leaf).effect is.result
             ∙ ap (λ t. (outcome_of setup shard t leaf).effect) same;
       }
@@ -208,8 +209,8 @@ module _ (setup : Setup) (shard : ℕ) where
       let parts = neither_there first (leaves_fault setup shard heads next leaves) none in
       let is = passes heads stand leaf (map_none (fault_at shard (length stand.log.leaves)) (broken_by setup shard heads stand leaf) parts.0) in
       let t = (outcome_of setup shard stand.table leaf).table in
-      let keys = keys_after setup.rules shard stand.table (entry_of setup leaf.entry) stand.keys in
-      heads_stand heads next leaves (next_heads heads stand.log (leaf_encoding leaf) (root_under keys t) has is.head) parts.1
+      let keys = keys_after setup.rules shard stand.table (entry_of setup leaf.action) stand.keys in
+      heads_stand heads next leaves (next_heads heads stand.log (leaf_encoding One leaf) (root_under keys t) has is.head) parts.1
 
   start_heads : (heads : List Bytes) → HasHeads heads (start_stand setup shard).log
   start_heads heads = record { roots = refl; told = λ number there. absurd (omega arith) }

@@ -4,8 +4,8 @@ use Rattle.std.specs.Prelude.{not, bytes_eq}
 use Rattle.std.specs.List.{list_all, flat_map}
 use Rattle.std.proofs.lemmas.Bool.{cases_Bool, and_parts, and_from, or_cases, or_left, or_right, both_ways, true≢false}
 use Rattle.cs_base.specs.Lists.{IsIn}
-use Rattle.cs_tx_types.specs.declared.entry.Entry.{Entry}
-use Rattle.cs_tx_types.specs.declared.entry.Entry.TheVariants.{Prepare, Decide}
+use Rattle.cs_tx_types.specs.declared.action.Action.{Action}
+use Rattle.cs_tx_types.specs.declared.action.Action.TheVariants.{Prepare, Decide}
 use Rattle.cs_tx_types.specs.declared.leaf.Leaf.{Leaf}
 use Rattle.cs_tx_types.specs.declared.session.Session.{Session}
 use Rattle.cs_ledger.specs.Ledger.{Bytes, Item, Transaction, Ledger, names, has, all_differ, apart, is_well_formed, ledger_after, Takes, HoldsAll, Serial, genesis_ledger}
@@ -100,28 +100,28 @@ takes_so ledger tx is =
 
 -- ---- the committed transactions
 
-prepared_is : (entry : Entry) (x : Session) → IsIn x (prepared_session entry) → entry ≡ Prepare x
+prepared_is : (entry : Action) (x : Session) → IsIn x (prepared_session entry) → entry ≡ Prepare x
 prepared_is (Prepare y) x (inl same) = ap Prepare (sym same)
 prepared_is (Prepare y) x (inr none) = absurd none
 prepared_is (Decide vote y) x none = absurd none
 
-is_prepared : (entry : Entry) (x : Session) → entry ≡ Prepare x → IsIn x (prepared_session entry)
+is_prepared : (entry : Action) (x : Session) → entry ≡ Prepare x → IsIn x (prepared_session entry)
 is_prepared entry x is = subst (λ e. IsIn x (prepared_session e)) (sym is) (inl refl)
 
 module _ (setup : Setup) (logs : List Log) where
   abbrev of_leaf : Leaf → List Session
-  of_leaf leaf = prepared_session leaf.entry
+  of_leaf leaf = prepared_session leaf.action
 
   committed_in : (x : Session) → IsIn x (committed setup logs) → IsCommitted setup logs x
   committed_in x within =
       let passed = of_filter (all_logs_commit setup logs) x (sessions_in_logs logs) within in
       let (log, listed, there) = of_flat (λ (log : Log). flat_map of_leaf log.leaves) x logs passed.0 in
       let (leaf, told, here) = of_flat of_leaf x log.leaves there in
-      record { log = log; leaf = leaf; listed = listed; told = told; prepared = prepared_is leaf.entry x here; commits = passed.1 }
+      record { log = log; leaf = leaf; listed = listed; told = told; prepared = prepared_is leaf.action x here; commits = passed.1 }
 
   in_committed : (x : Session) → IsCommitted setup logs x → IsIn x (committed setup logs)
   in_committed x is =
-      let here = is_prepared is.leaf.entry x is.prepared in
+      let here = is_prepared is.leaf.action x is.prepared in
       let there = in_flat of_leaf is.leaf x is.log.leaves is.told here in
       in_filter (all_logs_commit setup logs) x (sessions_in_logs logs) (in_flat (λ (log : Log). flat_map of_leaf log.leaves) is.log x logs is.listed there) is.commits
 

@@ -1,8 +1,8 @@
 -- The history that a dump tells, tested against its logs and the plain ledger.
 use Rattle.std.specs.Prelude.{ℕ, Bool, not, ◌&&◌, bytes_eq, if◌then◌else◌, List, [], ◌∷◌, ◌++◌, length, map, filter, find, Option, Some, None}
 use Rattle.std.specs.List.{flat_map, list_all}
-use Rattle.cs_tx_types.specs.declared.entry.Entry.{Entry}
-use Rattle.cs_tx_types.specs.declared.entry.Entry.TheVariants.{Prepare, Decide}
+use Rattle.cs_tx_types.specs.declared.action.Action.{Action}
+use Rattle.cs_tx_types.specs.declared.action.Action.TheVariants.{Prepare, Decide}
 use Rattle.cs_tx_types.specs.declared.session.Session.{Session}
 use Rattle.cs_ledger.specs.Ledger.{Bytes, Item, Transaction, Ledger, names, has, all_differ, apart, is_well_formed, ledger_after}
 use Rattle.cs_node_state.specs.Setup.{Setup}
@@ -14,13 +14,13 @@ use Rattle.cs_audit_rules.specs.Support.{all_logs_commit}
 
 -- ---- the transactions on which all concerned logs vote commit
 
-abbrev pub prepared_session : Entry → List Session
+abbrev pub prepared_session : Action → List Session
 prepared_session (Prepare x) = x ∷ []
 prepared_session (Decide vote x) = []
 
 -- the sessions of all Prepares, in the order of shards and slots
 abbrev pub sessions_in_logs : List Log → List Session
-sessions_in_logs logs = flat_map (λ log. flat_map (λ leaf. prepared_session leaf.entry) log.leaves) logs
+sessions_in_logs logs = flat_map (λ log. flat_map (λ leaf. prepared_session leaf.action) log.leaves) logs
 
 abbrev pub committed : Setup → List Log → List Session
 committed setup logs = filter (all_logs_commit setup logs) (sessions_in_logs logs)

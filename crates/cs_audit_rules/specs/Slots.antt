@@ -2,8 +2,8 @@
 use Rattle.std.specs.Prelude.{ℕ, ◌+◌, ◌==◌, Bool, true, false, not, bytes_eq, if◌then◌else◌, List, [], ◌∷◌, length, slice_get, Option, Some, None, option_map}
 use Rattle.cs_base.specs.Options.{or_else}
 use Rattle.cs_tx_types.specs.declared.checkpoint.Checkpoint.{Checkpoint}
-use Rattle.cs_tx_types.specs.declared.entry.Entry.{Entry}
-use Rattle.cs_tx_types.specs.declared.entry.Entry.TheVariants.{Prepare, Decide}
+use Rattle.cs_tx_types.specs.declared.action.Action.{Action}
+use Rattle.cs_tx_types.specs.declared.action.Action.TheVariants.{Prepare, Decide}
 use Rattle.cs_tx_types.specs.declared.leaf.Leaf.{Leaf}
 use Rattle.cs_ledger.specs.Ledger.{Bytes}
 use Rattle.cs_ledger.specs.ShardWorld.{vote_eq}
@@ -21,7 +21,7 @@ use Rattle.cs_audit_rules.specs.Stands.{Stand, start_stand, outcome_of, after_le
 -- ---- the rules
 
 -- a vote is given on an approved transaction
-abbrev pub is_judged : Setup → Entry → Bool
+abbrev pub is_judged : Setup → Action → Bool
 is_judged setup (Prepare x) = is_session_approved setup x
 is_judged setup (Decide vote x) = true
 
@@ -52,8 +52,8 @@ is_head heads (Some c) = is_just (head_of c) (slice_get heads c.number)
 abbrev pub broken_by : Setup → ℕ → List Bytes → Stand → Leaf → Option Rule
 broken_by setup shard heads stand leaf =
     if not (leaf.slot == length stand.log.leaves) then Some rule.Slot
-    else if not (is_fit setup shard (session_in leaf.entry)) then Some rule.Form
-    else if not (is_judged setup leaf.entry) then Some rule.Judge
+    else if not (is_fit setup shard (session_in leaf.action)) then Some rule.Form
+    else if not (is_judged setup leaf.action) then Some rule.Judge
     else if not (is_result setup shard stand leaf) then Some rule.Result
     else if not (is_head heads (made_last (after_leaf setup shard stand leaf).log)) then Some rule.Head
     else None

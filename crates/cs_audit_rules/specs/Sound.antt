@@ -1,8 +1,8 @@
 -- A sound dump. No auditor is in it.
 use Rattle.std.specs.Prelude.{◌≡◌, ℕ, Bool, true, List, ◌∷◌, ◌++◌, length, map, slice_get, Some, None}
 use Rattle.cs_base.specs.Lists.{IsIn}
-use Rattle.cs_tx_types.specs.declared.entry.Entry.{Entry}
-use Rattle.cs_tx_types.specs.declared.entry.Entry.TheVariants.{Prepare, Decide}
+use Rattle.cs_tx_types.specs.declared.action.Action.{Action}
+use Rattle.cs_tx_types.specs.declared.action.Action.TheVariants.{Prepare, Decide}
 use Rattle.cs_tx_types.specs.declared.leaf.Leaf.{Leaf}
 use Rattle.cs_tx_types.specs.declared.session.Session.{Session}
 use Rattle.cs_tx_types.specs.declared.transaction.Tx.{Tx}
@@ -27,20 +27,20 @@ use Rattle.cs_audit_rules.specs.Verdicts.{setup_in, first_fault}
 -- the shard's table after these leaves
 abbrev pub table_behind : Setup → ℕ → List Leaf → Table
 table_behind setup shard leaves =
-    table_after setup.rules shard (start setup.rules shard) (map (λ leaf. entry_of setup leaf.entry) leaves)
+    table_after setup.rules shard (start setup.rules shard) (map (λ leaf. entry_of setup leaf.action) leaves)
 
-abbrev pub IsJudged : Setup → Entry → Type 0
+abbrev pub IsJudged : Setup → Action → Type 0
 IsJudged setup (Prepare x) = is_session_approved setup x ≡ true
 IsJudged setup (Decide vote x) = Unit {0}
 
 -- a leaf behind those before it
 pub record IsSoundLeaf (setup : Setup) (shard : ℕ) (before : List Leaf) (leaf : Leaf) : Type 0 where
   pub slot : leaf.slot ≡ length before
-  pub formed : Seen.well_formed setup.rules (setup.session_of (session_in leaf.entry)) ≡ true
-  pub concerned : Seen.concerns setup.rules (setup.session_of (session_in leaf.entry)) shard ≡ true
-  pub judged : IsJudged setup leaf.entry
+  pub formed : Seen.well_formed setup.rules (setup.session_of (session_in leaf.action)) ≡ true
+  pub concerned : Seen.concerns setup.rules (setup.session_of (session_in leaf.action)) shard ≡ true
+  pub judged : IsJudged setup leaf.action
   pub result : effect_of leaf.result
-      ≡ (exec setup.rules shard (table_behind setup shard before) (entry_of setup leaf.entry)).effect
+      ≡ (exec setup.rules shard (table_behind setup shard before) (entry_of setup leaf.action)).effect
 
 -- each leaf is so, and the heads are those of the checkpoints of what was executed
 pub record IsSoundLog (setup : Setup) (shard : ℕ) (log : Log) : Type 0 where
@@ -57,7 +57,7 @@ pub record IsCommitted (setup : Setup) (logs : List Log) (x : Session) : Type 0 
   pub leaf : Leaf
   pub listed : IsIn log logs
   pub told : IsIn leaf log.leaves
-  pub prepared : leaf.entry ≡ Prepare x
+  pub prepared : leaf.action ≡ Prepare x
   pub commits : all_logs_commit setup logs x ≡ true
 
 -- a transaction of such a session

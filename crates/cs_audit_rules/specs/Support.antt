@@ -4,7 +4,7 @@ use Rattle.std.specs.List.{list_any, list_all, slice_index_or}
 use Rattle.cs_base.specs.Options.{or_else}
 use Rattle.cs_tx_types.specs.declared.effect.Effect.{Effect}
 use Rattle.cs_tx_types.specs.declared.effect.Effect.TheVariants as effect
-use Rattle.cs_tx_types.specs.declared.entry.Entry.TheVariants.{Prepare}
+use Rattle.cs_tx_types.specs.declared.action.Action.TheVariants.{Prepare}
 use Rattle.cs_tx_types.specs.declared.leaf.Leaf.{Leaf}
 use Rattle.cs_tx_types.specs.declared.session.Session.{Session}
 use Rattle.cs_ledger.specs.Ledger.{Bytes}
@@ -24,7 +24,7 @@ use Rattle.cs_audit_rules.specs.Slots.{fault_at}
 -- the log has such a Prepare, with this vote as its result
 abbrev pub has_vote : Setup → Vote → Bytes → Log → Bool
 has_vote setup vote d log =
-    list_any (λ leaf. prepares setup d leaf.entry && is_vote vote (effect_of leaf.result)) log.leaves
+    list_any (λ leaf. prepares setup d leaf.action && is_vote vote (effect_of leaf.result)) log.leaves
 
 abbrev pub log_at : List Log → ℕ → Log
 log_at logs shard = slice_index_or logs shard empty_dump_log
@@ -50,7 +50,7 @@ supports setup logs x effect.Skipped = true
 supports setup logs x effect.Void = true
 
 abbrev pub is_supported : Setup → List Log → Leaf → Bool
-is_supported setup logs leaf = supports setup logs (session_in leaf.entry) leaf.result
+is_supported setup logs leaf = supports setup logs (session_in leaf.action) leaf.result
 
 -- ---- the first fault
 

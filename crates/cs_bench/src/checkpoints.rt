@@ -7,7 +7,7 @@ use cs_base::{Config, Key, Memory, NodeId};
 use cs_check_rules::Leaf;
 use cs_sbac::Sbac;
 use cs_table::{Table, TableError};
-use cs_tx::{Effect, Encoded, Entry, Object, Session, Vote};
+use cs_tx::{Action, Effect, Encoded, Object, Session, Versioned, Vote};
 use std::alloc::Global;
 
 /// What is measured.
@@ -56,26 +56,27 @@ fn node(alloc: Global, objects: &[(Key, Object)]) -> Result<Option<Sbac>, Memory
     }
 }
 
-// Executes an entry as the next slot, and closes it if so wished. It answers whether all was done.
-fn fill(alloc: Global, sbac: &mut Sbac, entry: Entry, extent: Extent) -> Result<bool, Memory> {
-    if !entry.fits() {
+// Executes an action as the next slot, and closes it if so wished. It answers whether all was done.
+fn fill(alloc: Global, sbac: &mut Sbac, action: Action, extent: Extent) -> Result<bool, Memory> {
+    if !action.fits() {
         return Ok(false);
     }
-    let outcome = sbac.execute(alloc, &entry)?;
+    let outcome = sbac.execute(alloc, &action)?;
     match extent {
         Extent::Executed => Ok(true),
-        Extent::Closed => close(alloc, sbac, entry, outcome.effect),
+        Extent::Closed => close(alloc, sbac, action, outcome.effect),
     }
 }
 
 // Closes the next slot.
-fn close(alloc: Global, sbac: &mut Sbac, entry: Entry, effect: Effect) -> Result<bool, Memory> {
+fn close(alloc: Global, sbac: &mut Sbac, action: Action, effect: Effect) -> Result<bool, Memory> {
     let leaf = Leaf {
         slot: sbac.slots(),
-        entry,
+        place: 0,
+        action,
         result: effect,
     };
-    if !leaf.fits() || leaf.slot != sbac.slots() {
+    if !leaf.fits(1) || leaf.slot != sbac.slots() {
         return Ok(false);
     }
     sbac.close(alloc, &leaf)?;
@@ -83,7 +84,7 @@ fn close(alloc: Global, sbac: &mut Sbac, entry: Entry, effect: Effect) -> Result
     Ok(true)
 }
 
-// The entries that spend a coin: so many as are measured of one.
+// The actions that spend a coin: so many as are measured of one.
 fn spend(
     alloc: Global,
     sbac: &mut Sbac,
@@ -94,10 +95,10 @@ fn spend(
         return Ok(false);
     }
     let copied = session.copy(alloc)?;
-    let done = fill(alloc, sbac, Entry::Prepare(copied), measured.extent)?;
+    let done = fill(alloc, sbac, Action::Prepare(copied), measured.extent)?;
     match measured.keys {
         Keys::New if done => {
-            let decision = Entry::Decide(Vote::Commit, session);
+            let decision = Action::Decide(Vote::Commit, session);
             fill(alloc, sbac, decision, measured.extent)
         }
         Keys::New | Keys::Old => Ok(done),

@@ -65,12 +65,12 @@ fn submit(alloc: Global, bytes: u32) -> Result<Message, Memory> {
 // The keys of a name with one peer, where they can be made.
 fn keys(alloc: Global, me: NodeId, peer: NodeId, to: Digest, from: Digest) -> Option<Keys> {
     let list = [(peer, to, from)];
-    Keys::from_list(alloc, me, list.as_slice()).ok()
+    Keys::from_list(alloc, me, list.as_slice(), 1).ok()
 }
 
 // The client's datagram with the message for the node, where it can be sealed.
 fn datagram(alloc: Global, client: &Keys, message: &Message) -> Option<Vec<u8>> {
-    if !message.fits() {
+    if !message.fits(client.version()) {
         return None;
     }
     let mut bytes = Vec::new(alloc);

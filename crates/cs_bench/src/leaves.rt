@@ -9,7 +9,7 @@ use cs_check::Chain;
 use cs_check_rules::{Leaf, encode_leaf};
 use cs_table::Table;
 use cs_test_samples::spend;
-use cs_tx::{Effect, Encoded, Entry};
+use cs_tx::{Action, Effect, Versioned};
 use std::alloc::Global;
 
 /// Pushes so many leaves, over a table of so many coins that stays as it is: how many slots the
@@ -40,10 +40,11 @@ fn push(alloc: Global, chain: &mut Chain, table: &Table, slot: u64) -> Result<()
 {
     let leaf = Leaf {
         slot,
-        entry: Entry::Prepare(spend(alloc, [7; 32], 1, &[1], slot)?),
+        place: 0,
+        action: Action::Prepare(spend(alloc, [7; 32], 1, &[1], slot)?),
         result: Effect::Void,
     };
-    if leaf.fits() {
+    if leaf.fits(1) {
         let bytes = encode_leaf(alloc, &leaf)?;
         chain.push(alloc, bytes, table)?;
     }

@@ -13,8 +13,11 @@ ghost use Rattle.cs_native.specs.Approval.{is_approved_by};
 ghost use Rattle.cs_replay.specs.Sound.{IsSound, IsSoundWorld, AfterEach};
 ghost use Rattle.cs_cli.specs.Words.{command_of, texts_of};
 ghost use Rattle.cs_tx_value.specs.Object.{object_encoding, ObjectFits, object_at};
-ghost use Rattle.cs_tx_types.specs.Session.{entry_encoding, EntryFits};
-ghost use Rattle.cs_tx_types.specs.Reading.{entry_at};
+ghost use Rattle.cs_base.specs.declared.version.Version.{Version};
+ghost use Rattle.cs_tx_types.specs.Session.{action_encoding, ActionFits};
+ghost use Rattle.cs_tx_types.specs.Reading.{action_at};
+ghost use Rattle.cs_tx_types.specs.Entry.{entry_encoding, EntryFits, entry_at};
+ghost use Rattle.cs_base.specs.declared.version.Version.TheVariants.{One};
 ghost use Rattle.cs_tx_types.specs.Log.{ProofFits};
 ghost use Rattle.cs_wire.specs.Opened.{Opened, opened};
 ghost use Rattle.cs_wire.specs.OpenedAs.{IsOpenedAs};
@@ -134,7 +137,7 @@ pub fn run<S: Source, K: Sink, E: Store, L: Link, P: Spawner>(
     // `verify` says `shown` exactly where the proof shows its leaf; then, where no strings collide,
     // each checkpoint that has the head is the proof's, and has the leaf at its place.
     ensures shown { (claim : Claim) → ShowsExactly claim (verdict_on claim) }
-    ensures covered { (claim : Claim) → ProofFits claim.proof
+    ensures covered { (claim : Claim) → ProofFits One claim.proof
         → ProofTells claim.head (verdict_on claim) }
 
     // A yes of `audit` says that the dump is sound with that history. There is no premise.
@@ -193,11 +196,13 @@ pub fn run<S: Source, K: Sink, E: Store, L: Link, P: Spawner>(
 
     // What is read is what was written so. Bytes open as a message exactly where they are its
     // datagram, sealed under the key that is held, and else the first test that fails is told;
-    // entries and objects are read from their encodings; contracts and addresses are what their
-    // grammars spell.
+    // actions, entries and objects are read from their encodings; contracts and addresses are what
+    // their grammars spell.
     ensures datagrams { (keys : FileKeys) (bytes : List ℕ) (said : Opened) → IsBytes bytes
         → (opened keys bytes ≡ said) ↔ IsOpenedAs keys bytes said }
-    ensures entries { IsForm entry_encoding EntryFits entry_at }
+    ensures actions { IsForm action_encoding ActionFits action_at }
+    ensures entries { (version : Version)
+        → IsForm (entry_encoding version) (EntryFits version) (entry_at version) }
     ensures objects { IsForm object_encoding ObjectFits object_at }
     ensures contracts { (text : List ℕ) (contract : ContractTree)
         → (contract_of text ≡ Some contract) ↔ IsContract text contract }

@@ -4,8 +4,10 @@ ghost use Rattle.std.specs.declared.net.ip_addr.IpAddr.{IpAddr};
 ghost use Rattle.std.specs.Net.Grammar.{IsIpText};
 ghost use Rattle.cs_base.specs.Fields.{IsBytes, IsForm};
 ghost use Rattle.cs_tx_value.specs.Object.{object_encoding, ObjectFits, object_at};
-ghost use Rattle.cs_tx_types.specs.Session.{entry_encoding, EntryFits};
-ghost use Rattle.cs_tx_types.specs.Reading.{entry_at};
+ghost use Rattle.cs_base.specs.declared.version.Version.{Version};
+ghost use Rattle.cs_tx_types.specs.Session.{action_encoding, ActionFits};
+ghost use Rattle.cs_tx_types.specs.Reading.{action_at};
+ghost use Rattle.cs_tx_types.specs.Entry.{entry_encoding, EntryFits, entry_at};
 ghost use Rattle.cs_wire.specs.declared.keys.Keys.{Keys};
 ghost use Rattle.cs_wire.specs.Opened.{Opened, opened};
 ghost use Rattle.cs_wire.specs.OpenedAs.{IsOpenedAs};
@@ -18,15 +20,17 @@ use cs_config::addresses_are_read;
 use cs_types::contracts_are_read;
 use cs_wire::datagrams_open_as_they_are_sealed;
 
-/// What is read is what was written so: datagrams are those that were sealed, entries and objects
-/// are read from their encodings, and contract texts and addresses are what their grammars spell. So
-/// who believes how these are written need not believe how they are read.
+/// What is read is what was written so: datagrams are those that were sealed, actions, entries
+/// and objects are read from their encodings, and contract texts and addresses are what their
+/// grammars spell. So who believes how these are written need not believe how they are read.
 ///
 /// It does nothing: its contract is a theorem, which a caller has by calling it.
 pub fn what_is_read_was_written()
     ensures datagrams { (keys : Keys) (bytes : List ℕ) (said : Opened) → IsBytes bytes
         → (opened keys bytes ≡ said) ↔ IsOpenedAs keys bytes said }
-    ensures entries { IsForm entry_encoding EntryFits entry_at }
+    ensures actions { IsForm action_encoding ActionFits action_at }
+    ensures entries { (version : Version)
+        → IsForm (entry_encoding version) (EntryFits version) (entry_at version) }
     ensures objects { IsForm object_encoding ObjectFits object_at }
     ensures contracts { (text : List ℕ) (contract : ContractTree)
         → (contract_of text ≡ Some contract) ↔ IsContract text contract }

@@ -1,8 +1,10 @@
 -- What is known by tallies is what is known by the inputs.
 use Rattle.std.proofs.Common.{◌≡◌, ℕ, ◌+◌, ◌*◌, Bool, true, false, List, refl, ap, ◌∙◌}
-use Rattle.std.specs.Prelude.{nat_lt}
+use Rattle.std.specs.Prelude.{nat_lt, IfSome}
 use Rattle.std.specs.List.{list_all, list_any}
 use Rattle.cs_order.specs.Counts.{count_below}
+use Rattle.cs_base.specs.declared.config.Config.{Config}
+use Rattle.cs_tx_types.specs.Session.{SessionFits}
 use Rattle.cs_tx.specs.Digest.{digest_of_session}
 use Rattle.cs_tx.specs.Uses.{concerned_shards}
 use Rattle.cs_quorum.specs.Marks.{Marks, is_marked}
@@ -10,7 +12,7 @@ use Rattle.cs_client.specs.declared.errand.Errand.{Errand}
 use Rattle.cs_client.specs.declared.phases.Phase.{Phase as Kept}
 use Rattle.cs_client.specs.declared.phases.Phase.TheVariants as kept
 use Rattle.cs_client.specs.Inputs.{ClientInput}
-use Rattle.cs_client.specs.Phases.{phase}
+use Rattle.cs_client.specs.Phases.{phase, submitted}
 use Rattle.cs_client.specs.Knowing.{has_decided, knows_decided, outcome, known_in, knows}
 use Rattle.cs_client.specs.Voices.{is_enough}
 use Rattle.cs_client.specs.Seen.{phase_seen, PhaseFits, known_kept}
@@ -42,3 +44,10 @@ kept-known e inputs (kept.Submitting s) fits heard =
 -- what is known in a phase that is kept of these inputs
 pub known-so : (e : Errand) (inputs : List ClientInput) (now : Kept) → PhaseFits e.config now → phase_seen now ≡ phase e inputs → KeepsHeard e inputs now → known_kept e.config.f now ≡ knows e inputs
 known-so e inputs now fits is heard = kept-known e inputs now fits heard ∙ ap (known_in e inputs) is
+
+-- the session that is submitted is within its limits
+pub submitted-fits : (config : Config) (now : Kept) → PhaseFits config now → IfSome (submitted (phase_seen now)) SessionFits
+submitted-fits config kept.Asking fits = tt
+submitted-fits config (kept.Wanting wanted) fits = tt
+submitted-fits config (kept.Submitting s) fits = fits.fits
+submitted-fits config kept.Idle fits = tt

@@ -17,6 +17,13 @@ pub data Phase : Type 0 where
   Submitting : (x : Session) → Phase
   Idle : Phase  -- it does nothing more
 
+-- the session that is submitted, if there is one
+abbrev pub submitted : Phase → Option Session
+submitted Asking = None
+submitted (Wanting x) = None
+submitted (Submitting x) = Some x
+submitted Idle = None
+
 -- the dummy that is believed in a shard, if any
 abbrev pub Dummies : Type 0
 Dummies = ℕ → Option ℕ

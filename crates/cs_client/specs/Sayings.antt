@@ -9,6 +9,7 @@ use Rattle.cs_tx_types.specs.declared.session.Session.{Session}
 use Rattle.cs_tx.specs.Uses.{concerned_shards}
 use Rattle.cs_wire_message.specs.declared.message.Message.{Message}
 use Rattle.cs_wire_message.specs.declared.message.Message.TheVariants as message
+use Rattle.cs_base.specs.declared.version.Version.{Version}
 use Rattle.cs_wire_message.specs.Message.{kind_of, body_of}
 use Rattle.cs_wire.specs.declared.input.Out.{Out}
 use Rattle.cs_wire.specs.declared.keys.Row.{Row}
@@ -89,16 +90,16 @@ says_by e (input ∷ past) = says_by e past ++ says_at e input past
 -- ---- as datagrams
 
 -- the datagram to a peer; to one without a key there is none
-abbrev pub out_by : NodeId → NodeId → ℕ → List ℕ → Option Row → List Out
-out_by me to kind body (Some row) = record { to = to; bytes = datagram_with row.to me to kind body } ∷ []
-out_by me to kind body None = []
+abbrev pub out_by : Version → NodeId → NodeId → ℕ → List ℕ → Option Row → List Out
+out_by version me to kind body (Some row) = record { to = to; bytes = datagram_with version row.to me to kind body } ∷ []
+out_by version me to kind body None = []
 
 -- that of one body to each of these
 abbrev pub outs_with : Keys → ℕ → List ℕ → List NodeId → List Out
-outs_with keys kind body nodes = flat_map (λ to. out_by keys.me to kind body (row_of to keys)) nodes
+outs_with keys kind body nodes = flat_map (λ to. out_by keys.version keys.me to kind body (row_of to keys)) nodes
 
 abbrev pub out_of : Keys → Saying → List Out
-out_of keys said = out_by keys.me said.0 (kind_of said.1) (body_of said.1) (row_of said.0 keys)
+out_of keys said = out_by keys.version keys.me said.0 (kind_of said.1) (body_of keys.version said.1) (row_of said.0 keys)
 
 abbrev pub outs_of_sayings : Keys → List Saying → List Out
 outs_of_sayings keys sayings = flat_map (out_of keys) sayings

@@ -14,7 +14,7 @@ use crate::counting;
 use crate::errand::Errand;
 use crate::error::ClientError;
 use crate::known::Known;
-use crate::phases::{Phase, first, known_in, moved, say_again};
+use crate::phases::{Phase, first, known_in, moved, say_again, submitted};
 use cs_approve::Book;
 use cs_base::{Config, Memory, NodeId, Sequence};
 use cs_config::{CallFile, Site};
@@ -80,7 +80,7 @@ fn take(
     message: Message,
 ) -> Result<(), Memory>
     requires node { is_node errand.now.config from ≡ true }
-    requires message { MessageFits message }
+    requires message { MessageFits errand.now.keys.version message }
     requires told { ToldFits errand.now.config beliefs.old }
     requires marked { ToldMarked errand.now.config.f beliefs.old }
     requires phase { PhaseFits errand.now.config phase.old }
@@ -153,10 +153,11 @@ fn take_in(
 }
 
 impl ClientCore {
-    ghost use Rattle.std.specs.Prelude.{◌≡◌, ◌-◌, ◌^◌, ◌<◌, List, [], IfOk, IfSome};
+    ghost use Rattle.std.specs.Prelude.{◌≡◌, ◌-◌, ◌^◌, ◌<◌, List, [], IfOk, IfSome, option_copied};
     ghost use Rattle.cs_client.specs.declared.errand.Errand.{Errand as AnyErrand};
     ghost use Rattle.cs_client.specs.Inputs.{ClientInput, client_input};
     ghost use Rattle.cs_client.specs.Knowing.{knows};
+    ghost use Rattle.cs_client.specs.Phases.{submitted};
     ghost use Rattle.cs_client.specs.Standing.{errand_with, errand_again, ClientStandsFor, Steps};
     ghost use Rattle.cs_tx_types.specs.Session.{SessionFits};
 
@@ -219,6 +220,23 @@ impl ClientCore {
             phase,
         };
         Ok((client, outs))
+    }
+
+    /// The session that the client submits, where it has come to that.
+    pub fn session(&self) -> Option<&Session>
+        ensures session { (e : AnyErrand) (inputs : List ClientInput) →
+            ClientStandsFor e inputs self.now →
+            option_copied result ≡ submitted (phase_after e inputs) }
+        ensures fits { IfSome (option_copied result) SessionFits }
+    {
+        submitted(&self.phase)
+    }
+
+    /// The deployment of the client.
+    pub fn config(&self) -> &Config
+        ensures { result.now ≡ self.now.errand.config }
+    {
+        &self.errand.config
     }
 
     /// The number of the call.

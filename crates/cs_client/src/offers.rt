@@ -21,7 +21,7 @@ fn add_out(
 ) -> Result<(), Memory>
     requires { length body.now ≤ MOST_BODY }
     ensures { OnOk result
-        (outs.new ≡ outs.old ++ out_by keys.now.me to kind body.now (row_of to keys.now)) }
+        (outs.new ≡ outs.old ++ out_by keys.now.version keys.now.me to kind body.now (row_of to keys.now)) }
 {
     let mut bytes = Vec::new(alloc);
     match seal_with(alloc, keys, to, kind, body, &mut bytes) {
@@ -64,10 +64,10 @@ pub fn say(
     message: &Message,
     outs: &mut Sequence<Out>,
 ) -> Result<(), Memory>
-    requires { MessageFits message.now }
+    requires { MessageFits keys.now.version message.now }
     ensures { OnOk result
         (outs.new ≡ outs.old ++ outs_of_sayings keys.now (say_to_each to.now message.now)) }
 {
-    let body = body_of(alloc, message)?;
+    let body = body_of(alloc, message, keys.version())?;
     say_body(alloc, keys, to, message.kind(), &body, outs)
 }

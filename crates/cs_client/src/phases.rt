@@ -4,7 +4,7 @@ ghost use Rattle.cs_tx.specs.Uses.{concerned_shards};
 ghost use Rattle.cs_tx_types.specs.Session.{SessionFits};
 ghost use Rattle.cs_tx_types.specs.Transaction.{TxFits};
 ghost use Rattle.cs_client.specs.declared.phases.Phase.TheVariants as kept;
-ghost use Rattle.cs_client.specs.Phases.{Asking, Wanting, wanting, after_method, first_phase};
+ghost use Rattle.cs_client.specs.Phases.{Asking, Wanting, wanting, after_method, first_phase, submitted};
 ghost use Rattle.cs_client.specs.Sayings.{submits, again, outs_of_sayings};
 ghost use Rattle.cs_client.specs.Kept.{ToldFits, ToldMarked};
 ghost use Rattle.cs_client.specs.Seen.{phase_seen, WantedFits, SubmissionFits, PhaseFits, known_kept, dummies_kept, IsFresh, Enters, ClientMoves};
@@ -194,6 +194,16 @@ pub fn moved(
         Phase::Wanting(wanted) => Ok(provided(alloc, errand, beliefs, wanted, outs)?),
         Phase::Submitting(submission) => Ok(Phase::Submitting(submission)),
         Phase::Idle => Ok(Phase::Idle),
+    }
+}
+
+/// The session that is submitted in a phase, if there is one.
+pub fn submitted(phase: &Phase) -> Option<&Session>
+    ensures { option_copied result ≡ submitted (phase_seen phase.now) }
+{
+    match phase {
+        Phase::Submitting(submission) => Some(&submission.session),
+        Phase::Asking | Phase::Wanting(_) | Phase::Idle => None,
     }
 }
 

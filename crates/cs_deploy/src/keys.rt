@@ -1,6 +1,7 @@
 //! Taking a key file.
 ghost use Rattle.std.specs.Prelude.{◌≡◌, true, IfOk, IsErrAnd};
 ghost use Rattle.cs_base.specs.Outside.{HasCause};
+ghost use Rattle.cs_base.specs.declared.version.Version.TheVariants.{One};
 ghost use Rattle.cs_io.specs.Told.{Stays};
 ghost use Rattle.cs_deploy.specs.Taking.{IsStoreFault, TakesFiles, FilesCome};
 ghost use Rattle.cs_deploy.specs.Files.{is_right, keys_taken};
@@ -29,7 +30,7 @@ fn is_right(role: Role, config: &Config, me: NodeId) -> bool
     }
 }
 
-/// The keys of the file of this name, which are those of one in this role.
+/// The keys of the file of this name, which are those of one in this role, and of version 1.
 pub fn take_keys<E: Store>(
     alloc: Global,
     store: &mut E,
@@ -39,6 +40,7 @@ pub fn take_keys<E: Store>(
 ) -> Result<Keys, Untaken>
     ensures taken { TakesFiles (FilesCome (keys_taken role site.now.config name.now))
         (E.files store.old) result }
+    ensures first { IfOk result (λ keys. keys.version ≡ One) }
     ensures right { IfOk result (λ keys. is_right role site.now.config keys.me ≡ true) }
     ensures kept { Stays (E.files store.old) (E.files store.new) }
     ensures cause { HasCause (E.faults store.old) (E.faults store.new) (IsErrAnd result IsStoreFault) }

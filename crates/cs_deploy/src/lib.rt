@@ -33,7 +33,7 @@ pub use clients::run_client;
 pub use clusters::run_cluster;
 pub use keys_command::{run_keys, run_keys_read};
 pub use limits::{MASTER_DIGITS, MOST_MASTER, MOST_TRIES};
-pub use loading::MOST_FILE;
+pub use loading::{MOST_FILE, load};
 pub use master::{master_in, master_of};
 pub use nodes::run_node;
 pub use sessions::run_client_session;

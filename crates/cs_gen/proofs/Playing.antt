@@ -10,6 +10,7 @@ use Rattle.cs_tx_value.specs.Object.{ObjectFits}
 use Rattle.cs_tx_types.specs.declared.session.Session.{Session}
 use Rattle.cs_tx_types.specs.Session.{SessionFits}
 use Rattle.cs_wire_message.specs.declared.message.Message.TheVariants.{Submit}
+use Rattle.cs_base.specs.declared.version.Version.TheVariants.{One}
 use Rattle.cs_wire_message.proofs.Spelled.{bytes-body}
 use Rattle.cs_wire_message.proofs.Short.{body_short}
 use Rattle.cs_sched.specs.declared.schedule.Event.{Event}
@@ -60,8 +61,8 @@ module _ (x : Session) (fits : SessionFits x) where
     speaker = record { named = refl; speaks = refl };
     listener = record { node = is; honest = refl };
     kind = omega arith;
-    short = body_short (Submit x) fits;
-    in_bytes = bytes-body (Submit x) fits;
+    short = body_short One (Submit x) fits;
+    in_bytes = bytes-body One (Submit x) fits;
   }
 
   plays-each : (nodes : List NodeId) → AreNodes nodes → AllPlay (map (submitted x) nodes)
@@ -119,6 +120,7 @@ playable number size few differ =
       some_shard = omega arith;
       few_shards = omega arith;
       few_faulty = omega arith;
+      version = omega arith;
       liars = λ k d none. absurd (omega arith);
       few_liars = λ shard. omega arith;
       liars_differ = λ i j d less none. absurd (omega arith);

@@ -14,6 +14,7 @@ use Rattle.cs_tx_types.specs.Transaction.{Keyed}
 use Rattle.cs_tx.specs.Digest.{name_of_genesis}
 use Rattle.cs_tx.specs.Token.{token_id}
 use Rattle.cs_tx.specs.Uses.{inputs_of, names, is_among, concerned_shards}
+use Rattle.cs_base.specs.declared.version.Version.TheVariants.{One}
 use Rattle.cs_wire_message.specs.Message.{kind_of, body_of}
 use Rattle.cs_wire_message.specs.declared.message.Message.TheVariants.{Submit}
 use Rattle.cs_sched.specs.declared.schedule.Event.{Event}
@@ -96,7 +97,7 @@ client = record { shard = CLIENT_SHARD; index = 0 }
 
 -- a session is submitted to a node
 abbrev pub submitted : Session → NodeId → Event
-submitted x node = Say client node (kind_of (Submit x)) (body_of (Submit x))
+submitted x node = Say client node (kind_of (Submit x)) (body_of One (Submit x))
 
 -- it is submitted to every node of these shards
 abbrev pub submitted_to : Session → List ℕ → List Event

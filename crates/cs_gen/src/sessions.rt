@@ -20,6 +20,7 @@ pub(crate) fn layout() -> Config
         shards: 3,
         f: 1,
         dummies: 8,
+        version: 1,
     }
 }
 

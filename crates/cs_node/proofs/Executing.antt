@@ -1,11 +1,11 @@
 -- An execution with the node's own vote is what its signs say.
-use Rattle.std.proofs.Common.{◌≡◌, ℕ, Bool, true, false, cond, List, [], ◌∷◌, ◌++◌, Option, Some, None, bytes_eq, IsSome, is_some, refl, ap, sym, subst, ◌∙◌, arith, append_assoc, append-nil}
+use Rattle.std.proofs.Common.{◌≡◌, ℕ, ◌-◌, ◌%◌, ◌==◌, Bool, true, false, cond, List, [], ◌∷◌, ◌++◌, length, Option, Some, None, bytes_eq, IfSome, IsSome, is_some, refl, ap, sym, subst, ◌∙◌, arith, append_assoc, append-nil}
 use Rattle.cs_tx.specs.Votes.{vote_of}
 use Rattle.cs_base.specs.declared.node_id.NodeId.{NodeId}
 use Rattle.cs_tx_types.specs.declared.session.Session.{Session}
 use Rattle.cs_tx_types.specs.declared.vote.Vote.{Vote}
-use Rattle.cs_tx_types.specs.declared.entry.Entry.{Entry}
-use Rattle.cs_tx_types.specs.declared.entry.Entry.TheVariants.{Prepare, Decide}
+use Rattle.cs_tx_types.specs.declared.action.Action.{Action}
+use Rattle.cs_tx_types.specs.declared.action.Action.TheVariants.{Prepare, Decide}
 use Rattle.cs_ledger.specs.Ledger.{Bytes}
 use Rattle.cs_ledger.specs.Session.{anchor}
 use Rattle.cs_ledger.specs.Table as Chosen
@@ -18,7 +18,8 @@ use Rattle.cs_tx_types.specs.Session.{session_in}
 use Rattle.cs_node_rules.specs.Members.{others}
 use Rattle.cs_node_state.specs.Pool.{Pool, found, is_pooled, pool_changed, with_ballot, as_locked, entering, pushed, entered, entered_locked}
 use Rattle.cs_tx_types.specs.declared.checkpoint.Checkpoint.{Checkpoint}
-use Rattle.cs_check_rules.specs.Chain.{head_of, made_last}
+use Rattle.cs_tx_types.specs.declared.limits.TheConstants.{COVERED}
+use Rattle.cs_check_rules.specs.Chain.{Log, checkpoint_of, head_of, made_last}
 use Rattle.cs_node_state.specs.Bench.{Bench, Ran, is_locked, pool_after, executed, effect_from, next_leaf, with_leaf, slot_executed, told_by, vote_told, own_pool, bench_executed}
 use Rattle.cs_node_rules.specs.Signs.{Sign, Did, Headed, bench_after, sends, own_signs, vote_signs, entered_signs, ran_signs, headed_signs, actions_signs, execution_signs}
 use Rattle.cs_node.specs.declared.draft.Note.TheVariants.{Executed}
@@ -132,11 +133,11 @@ module _ (setup : Setup) (me : NodeId) (x : Session) where
   voted-notes (Some told) = notes-sends (others setup.f me (concerned setup x)) (message.Voted told.0 told.1 x)
 
 -- what is kept of a slot, with the node's own vote
-abbrev pub bench_closed : Setup → NodeId → Bench → Entry → Bench
+abbrev pub bench_closed : Setup → NodeId → Bench → Action → Bench
 bench_closed setup me b entry =
     with_leaf (next_leaf b entry (executed setup me.shard b entry).effect) (bench_executed setup me b entry)
 
-ran-makes : (setup : Setup) (me : NodeId) (b b' : Bench) (slot : ℕ) (entry : Entry) (made mid made' : Draft) → b' ≡ bench_closed setup me b entry
+ran-makes : (setup : Setup) (me : NodeId) (b b' : Bench) (slot : ℕ) (entry : Action) (made mid made' : Draft) → b' ≡ bench_closed setup me b entry
     → TellsSigns (vote_signs setup me (session_in entry) (vote_told setup me.shard (session_in entry) (executed setup me.shard b entry))) made mid
     → made'.notes ≡ mid.notes ++ Executed slot 0 entry (effect_from (executed setup me.shard b entry).effect) ∷ [] → made'.said ≡ mid.said
     → Makes setup me (ran_signs setup me b slot 0 entry (session_in entry) (executed setup me.shard b entry)) b b' made made'
@@ -174,7 +175,15 @@ bench-headed setup me (Some c) b =
     bench-append setup me.shard (sends names (message.Head c)) (Headed c.number (head_of c) ∷ []) b
     ∙ bench-sends setup me.shard names (message.Head c) b
 
-pub execution-makes : (setup : Setup) (me : NodeId) (b b' : Bench) (slot : ℕ) (entry : Entry) (made mid made' made'' : Draft) → b' ≡ bench_closed setup me b entry
+-- a checkpoint that a log made covers 16 leaves
+pub last-covers : (log : Log) → IfSome (made_last log) (λ c. c.leaves ≡ COVERED)
+last-covers log = by (length log.leaves % COVERED == 0)
+  where
+    by : (b : Bool) → IfSome (cond b (Some (checkpoint_of log (length log.table_roots - 1))) None) (λ c. c.leaves ≡ COVERED)
+    by true = refl
+    by false = tt
+
+pub execution-makes : (setup : Setup) (me : NodeId) (b b' : Bench) (slot : ℕ) (entry : Action) (made mid made' made'' : Draft) → b' ≡ bench_closed setup me b entry
     → TellsSigns (vote_signs setup me (session_in entry) (vote_told setup me.shard (session_in entry) (executed setup me.shard b entry))) made mid
     → made'.notes ≡ mid.notes ++ Executed slot 0 entry (effect_from (executed setup me.shard b entry).effect) ∷ [] → made'.said ≡ mid.said
     → TellsSigns (headed_signs setup me (made_last b'.log)) made' made'' → Makes setup me (execution_signs setup me b slot entry) b b' made made''
@@ -199,7 +208,7 @@ given : (f : Bool) (o void : Outcome) → void.effect ≡ Void → (asks : Outco
 given true o void is asks some = refl
 given false o void is asks some = let none : false ≡ true = sym (ap (λ effect. is_some (told_by effect (asks void))) is) ∙ some in absurd (let q : false ≡ true = none in cc)
 
-pub voted-fit : (setup : Setup) (shard : ℕ) (b : Bench) (entry : Entry) → IsSome (vote_told setup shard (session_in entry) (executed setup shard b entry)) → is_fit setup shard (session_in entry) ≡ true
+pub voted-fit : (setup : Setup) (shard : ℕ) (b : Bench) (entry : Action) → IsSome (vote_told setup shard (session_in entry) (executed setup shard b entry)) → is_fit setup shard (session_in entry) ≡ true
 voted-fit setup shard b (Prepare x) some =
     given (is_fit setup shard x) (act setup.rules shard b.table (Chosen.Prepare (setup.session_of x)) (anchor setup.rules (setup.session_of x) shard))
     (record { table = b.table; effect = Void }) refl (λ o. is_locked setup shard o.table x) some

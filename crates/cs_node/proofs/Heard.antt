@@ -183,7 +183,7 @@ signs-said {O} {J} {M} {A} {E} stands approves rules carrier engine held draft d
 pub record IsUnanswered (m : Message) : Type 0 where
   pub submit : (x : Session) → m ≡ message.Submit x → ⊥
   pub ask : (asked : Option Key) → m ≡ message.Ask asked → ⊥
-  pub ask_proof : (slot : ℕ) → m ≡ message.AskProof slot → ⊥
+  pub ask_proof : (slot place : ℕ) → m ≡ message.AskProof slot place → ⊥
   pub voted : (vote : Vote) (asks : Bool) (x : Session) → m ≡ message.Voted vote asks x → ⊥
   pub want : (slot : ℕ) → m ≡ message.Want slot → ⊥
   pub head : (checkpoint : Checkpoint) → m ≡ message.Head checkpoint → ⊥
@@ -204,7 +204,7 @@ module _ {M : Type 0} (machine : Machine M) (site : Site M) (carries : Carries m
   other-marks : (m : Message) → IsUnanswered m → member_marks site v sender (site.carrier.read m) ≡ message_marks site v sender m
   other-marks (message.Submit x) other = absurd (other.submit x refl)
   other-marks (message.Ask asked) other = absurd (other.ask asked refl)
-  other-marks (message.AskProof slot) other = absurd (other.ask_proof slot refl)
+  other-marks (message.AskProof slot place) other = absurd (other.ask_proof slot place refl)
   other-marks (message.Voted vote asks x) other = absurd (other.voted vote asks x refl)
   other-marks (message.Want slot) other = absurd (other.want slot refl)
   other-marks (message.Head checkpoint) other = absurd (other.head checkpoint refl)

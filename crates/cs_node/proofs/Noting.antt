@@ -5,6 +5,7 @@ use Rattle.cs_tx_types.specs.declared.effect.Effect.{Effect}
 use Rattle.cs_tx_types.specs.declared.effect.Effect.TheVariants.{Voted, Accepted, Aborted, Skipped, Void}
 use Rattle.cs_table.specs.Effects.{effect_of}
 use Rattle.cs_tx_types.specs.declared.vote.Vote.TheVariants.{Commit, Abort}
+use Rattle.cs_base.specs.declared.version.Version.TheVariants.{One}
 use Rattle.cs_wire_message.specs.Message.{MessageFits}
 use Rattle.cs_node.specs.declared.draft.Note.{Note}
 use Rattle.cs_node.specs.declared.draft.Said.{Said}
@@ -37,12 +38,12 @@ draft-noted old new note is same fit fits = record {
   said = subst AllSaidFit (sym same) fits.said;
 }
 
-said-push : (all : List Said) (said : Said) → AllSaidFit all → MessageFits said.message → AllSaidFit (all ++ said ∷ [])
+said-push : (all : List Said) (said : Said) → AllSaidFit all → MessageFits One said.message → AllSaidFit (all ++ said ∷ [])
 said-push [] said fits fit = (fit, tt)
 said-push (s ∷ all) said fits fit = (fits.0, said-push all said fits.1 fit)
 
 -- a message more
-pub draft-said : (old new : Draft) (said : Said) → new.said ≡ old.said ++ said ∷ [] → new.notes ≡ old.notes → MessageFits said.message → DraftFits old → DraftFits new
+pub draft-said : (old new : Draft) (said : Said) → new.said ≡ old.said ++ said ∷ [] → new.notes ≡ old.notes → MessageFits One said.message → DraftFits old → DraftFits new
 draft-said old new said is same fit fits = record {
   notes = subst NotesFit (sym same) fits.notes;
   said = subst AllSaidFit (sym is) (said-push old.said said fits.said fit);

@@ -9,8 +9,7 @@ use Rattle.cs_wire.specs.declared.keys.Keys.{Keys}
 use Rattle.cs_wire.specs.declared.opening.OpenError.{OpenError}
 use Rattle.cs_wire.specs.declared.opening.OpenError.TheVariants as errors
 use Rattle.cs_wire_message.specs.Message.{is_kind}
-use Rattle.cs_wire.specs.declared.head.TheConstants.{MAGIC}
-use Rattle.cs_wire.specs.Datagram.{body_in}
+use Rattle.cs_wire.specs.Datagram.{magic_of, body_in}
 use Rattle.cs_wire.specs.Heads.{head_seen}
 use Rattle.cs_wire.specs.Keys.{row_of}
 use Rattle.cs_base.specs.NodeId.{same_name}
@@ -34,7 +33,7 @@ keyed head bytes (Some row) none = refl
 headed : (keys : Keys) (bytes : List ℕ) (head : Head) → head_fault keys bytes (Some head) ≡ None → IsSome (row_of head.from keys)
 headed keys bytes head none =
     keyed head bytes (row_of head.from keys)
-    (past-test (same_name head.to keys.me) errors.NotMine _ (past-test (is_kind head.kind) errors.Kind _ (past-test (bytes_eq head.magic MAGIC) errors.Magic _ none)))
+    (past-test (same_name head.to keys.me) errors.NotMine _ (past-test (is_kind head.kind) errors.Kind _ (past-test (bytes_eq head.magic (magic_of keys.version)) errors.Magic _ none)))
 
 long : (short : Bool) (later : Option OpenError) → cond short (Some errors.Short) later ≡ None → later ≡ None
 long true later none = let q : Some errors.Short ≡ None = none in cc
@@ -48,12 +47,12 @@ sayer : (from sender : NodeId) (found : Option Message) (m : Message) → said_b
 sayer from sender None m is = let q : Err errors.Body ≡ Ok (sender, m) = is in cc
 sayer from sender (Some n) m is = ap (who from) is
 
-by-head : (keys : Keys) (bytes : List ℕ) (sender : NodeId) (m : Message) (found : Option Head) → head_fault keys bytes found ≡ None → opened_body bytes found ≡ Ok (sender, m) → IsSome (row_of sender keys)
+by-head : (keys : Keys) (bytes : List ℕ) (sender : NodeId) (m : Message) (found : Option Head) → head_fault keys bytes found ≡ None → opened_body keys.version bytes found ≡ Ok (sender, m) → IsSome (row_of sender keys)
 by-head keys bytes sender m None none is = let q : Err errors.Short ≡ Ok (sender, m) = is in cc
 by-head keys bytes sender m (Some head) none is =
-    subst (λ (n : NodeId). IsSome (row_of n keys)) (sayer head.from sender (message_whole head.kind (body_in bytes)) m is) (headed keys bytes head none)
+    subst (λ (n : NodeId). IsSome (row_of n keys)) (sayer head.from sender (message_whole keys.version head.kind (body_in bytes)) m is) (headed keys bytes head none)
 
-by-fault : (keys : Keys) (bytes : List ℕ) (sender : NodeId) (m : Message) (fault : Option OpenError) → open_fault keys bytes ≡ fault → unless_fault fault (opened_body bytes (head_seen bytes)) ≡ Ok (sender, m) → IsSome (row_of sender keys)
+by-fault : (keys : Keys) (bytes : List ℕ) (sender : NodeId) (m : Message) (fault : Option OpenError) → open_fault keys bytes ≡ fault → unless_fault fault (opened_body keys.version bytes (head_seen bytes)) ≡ Ok (sender, m) → IsSome (row_of sender keys)
 by-fault keys bytes sender m (Some error) at is = let q : Err error ≡ Ok (sender, m) = is in cc
 by-fault keys bytes sender m None at is = by-head keys bytes sender m (head_seen bytes) (long (nat_lt (length bytes) 49) (head_fault keys bytes (head_seen bytes)) at) is
 

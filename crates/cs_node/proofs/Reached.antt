@@ -6,7 +6,7 @@ use Rattle.cs_base.specs.declared.config.Config.{Config}
 use Rattle.cs_base.specs.declared.node_id.NodeId.{NodeId}
 use Rattle.cs_base.specs.NodeId.{is_node, same_name}
 use Rattle.cs_tx_types.specs.declared.transaction.Tx.{Tx}
-use Rattle.cs_tx_types.specs.declared.entry.Entry.{Entry}
+use Rattle.cs_tx_types.specs.declared.action.Action.{Action}
 use Rattle.cs_wire_message.specs.declared.message.Message.{Message}
 use Rattle.cs_wire_message.specs.declared.message.Message.TheVariants as message
 use Rattle.cs_wire_message.specs.Classes.{Class, OfOrder, class_of}
@@ -30,7 +30,7 @@ use Rattle.cs_node_state.specs.Admission.{due}
 use Rattle.cs_node_rules.specs.Signs.{Sign, Dropped, Took as Took_vote, Entered, Viewed, Did, Headed, Kept, Sent, sends, execution_signs, asked_again, said_signs}
 use Rattle.cs_node_rules.specs.Site.{Input, Datagram, Tick, Mark, In, Ordered, Site, View, view_after, plain, signs_of}
 use Rattle.cs_node_rules.specs.Trail.{out_signs, handed, with_deed, entered_view, moving, admits_proposed, proposing, due_marks, candidate_marks, propose_marks, echo_marks, cut_marks, step_marks, turn_marks, continued, settled, taking_marks, member_marks, reply_marks, want_marks, class_marks, message_marks, opened_marks, again_marks, waiting_marks, input_marks, event_marks}
-use Rattle.cs_node.specs.declared.nodes.Core.{Core}
+use Rattle.cs_node.specs.declared.node_core.Core.{Core}
 use Rattle.cs_node.specs.Notes.{said_of, AllReached}
 use Rattle.cs_node.specs.Cores.{CoreStandsFor}
 use Rattle.cs_node.proofs.Names.{me-after}
@@ -119,7 +119,7 @@ module _ {M : Type 0} (Peer : NodeId → Type 0) (config : Config) (site : Site 
 
     -- ---- rules
 
-    goes-due : (found : Option Entry) → GoesIf (due_marks site v found)
+    goes-due : (found : Option Action) → GoesIf (due_marks site v found)
     goes-due None = tt
     goes-due (Some entry) = goes-deed (Proposing (site.proposed_of entry) (site.machine.proposing v.member (site.proposed_of entry)))
 
@@ -255,14 +255,14 @@ reached-of keys (Did slot place entry effect ∷ past) all = reached-of keys pas
 reached-of keys (Sent to message ∷ past) all = reached-append keys (said_of past) ((to, message) ∷ []) (reached-of keys past all.1) (all.0, tt)
 
 pub event-reached : {O J M : Type 0} (stands : O → Member M → Type 0) (approves : J → Tx → Bool) (site : Site M) (core : Core O J M) (v : View M) (input : Input) → CoreStandsFor stands approves site core v
-    → AllReached core.keys (said_of (signs_of (event_marks site v input)))
+    → AllReached core.own.keys (said_of (signs_of (event_marks site v input)))
 event-reached {O} {J} {M} stands approves site core v input is =
     let config : Config = core.engine.sbac.config in
-    let Peer : NodeId → Type 0 = λ to. IsSome (row_of to core.keys) in
+    let Peer : NodeId → Type 0 = λ to. IsSome (row_of to core.own.keys) in
     let names : core.engine.sbac.me ≡ v.me = ap (λ (u : View M). u.me) is.keeps.view_is in
     let node : is_node config v.me ≡ true = subst (λ (n : NodeId). is_node config n ≡ true) names is.keeps.seated.node in
     let reaches : (to : NodeId) → is_node config to ≡ true → same_name to v.me ≡ false → Peer to = λ to is_one other. is.speaks.reaches to is_one (ap (same_name to) is.me_is ∙ other) in
-    reached-of core.keys (signs_of (event_marks site v input))
+    reached-of core.own.keys (signs_of (event_marks site v input))
     (goes-event Peer config site (ap (λ (s : Setup). s.f) (sym is.keeps.setup_is)) (ap (λ (s : Setup). s.shards) (sym is.keeps.setup_is))
     v (record { node = node; others_too = reaches }) input
-    (λ bytes sender m opens. opener-held core.keys bytes sender m (is.speaks.opens bytes ∙ ap (λ (n : NodeId). site.net.opened n bytes) is.me_is ∙ opens)))
+    (λ bytes sender m opens. opener-held core.own.keys bytes sender m (is.speaks.opens bytes ∙ ap (λ (n : NodeId). site.net.opened n bytes) is.me_is ∙ opens)))

@@ -4,6 +4,7 @@ use Rattle.std.proofs.lemmas.List.{drop_more}
 use Rattle.cs_base.specs.declared.config.Config.{Config}
 use Rattle.cs_base.specs.declared.node_id.NodeId.{NodeId}
 use Rattle.cs_wire_message.specs.declared.message.Message.{Message}
+use Rattle.cs_base.specs.declared.version.Version.TheVariants.{One}
 use Rattle.cs_wire_message.specs.Message.{kind_of, body_of, MessageFits}
 use Rattle.cs_wire.specs.declared.input.Out.{Out}
 use Rattle.cs_wire.specs.declared.keys.Keys.{Keys}
@@ -20,10 +21,10 @@ use Rattle.cs_node.specs.Speaking.{Speaks}
 -- what was sealed is the datagram of the net
 pub sealed-so : (config : Config) (net : Net) (keys : Keys) → Speaks config net keys → (to : NodeId) (kind : ℕ) (body old bytes : Bytes) → old ≡ [] → SealsWith keys to kind body old bytes → bytes ≡ net.datagram keys.me to kind body
 sealed-so config net keys speaks to kind body old bytes none s =
-    s.is ∙ ap (λ (o : Bytes). o ++ datagram_with s.row.to keys.me to kind body) none ∙ speaks.seals to s.row s.held kind body
+    s.is ∙ ap (λ (o : Bytes). o ++ datagram_with keys.version s.row.to keys.me to kind body) none ∙ speaks.seals to s.row s.held kind body
 
 -- and of a message's kind and body it is the message's
-pub written-so : (net : Net) (me to : NodeId) (m : Message) (kind : ℕ) (body : Bytes) → kind ≡ kind_of m → body ≡ body_of m → net.datagram me to kind body ≡ sealed_by_net net me to m
+pub written-so : (net : Net) (me to : NodeId) (m : Message) (kind : ℕ) (body : Bytes) → kind ≡ kind_of m → body ≡ body_of One m → net.datagram me to kind body ≡ sealed_by_net net me to m
 written-so net me to m kind body is-kind is-body =
     ap (λ (k : ℕ). net.datagram me to k body) is-kind ∙ ap (net.datagram me to (kind_of m)) is-body
 
@@ -47,7 +48,7 @@ outs-same net me (Sent to message ∷ past) =
 -- ---- one after the other
 
 -- what is left fits
-pub rest-fits : (all : List Said) (i : ℕ) (d : Said) → i < length all → AllSaidFit (drop i all) → MessageFits (get_or all i d).message × AllSaidFit (drop (i + 1) all)
+pub rest-fits : (all : List Said) (i : ℕ) (d : Said) → i < length all → AllSaidFit (drop i all) → MessageFits One (get_or all i d).message × AllSaidFit (drop (i + 1) all)
 rest-fits all i d lt fits = subst AllSaidFit (drop_more all i d lt) fits
 
 -- of the names that are left, the first is reached
@@ -81,7 +82,7 @@ names-sealed net me m outs outs' whole names i d lt grew so-far =
 
 -- what was written once was sealed for one more, who has a key
 pub name-sealed : (net : Net) (keys : Keys) (m : Message) (kind : ℕ) (body : Bytes) (outs outs' whole : List Out) (names : List NodeId) (i : ℕ) (d : NodeId) → i < length names
-    → kind ≡ kind_of m → body ≡ body_of m
+    → kind ≡ kind_of m → body ≡ body_of One m
     → (IsSome (row_of (get_or names i d) keys) → outs' ≡ outs ++ record { to = get_or names i d; bytes = net.datagram keys.me (get_or names i d) kind body } ∷ [])
     → AllReached keys (to_each (drop i names) m) × (outs ++ outs_for net keys.me (to_each (drop i names) m) ≡ whole)
     → AllReached keys (to_each (drop (i + 1) names) m) × (outs' ++ outs_for net keys.me (to_each (drop (i + 1) names) m) ≡ whole)

@@ -17,7 +17,7 @@ use Rattle.cs_node_rules.specs.Deployment.{site_of}
 use Rattle.cs_node_pool.specs.Deployed.{deployed_setup}
 use Rattle.cs_sbac.specs.Held.{Held, bench_of}
 use Rattle.cs_node.specs.declared.engine.Engine.{Engine}
-use Rattle.cs_node.specs.declared.nodes.Core.{Core}
+use Rattle.cs_node.specs.declared.node_core.Core.{Core}
 use Rattle.cs_node.specs.declared.outs.Made.{Made}
 use Rattle.cs_node.specs.Drafts.{Draft}
 use Rattle.cs_node.specs.Notes.{nothing_said, spoken, outs_of, outs_for, AllReached}
@@ -117,25 +117,25 @@ speaks-on config config' net keys same-shards same-f speaks = record {
 
 module _ {O J M : Type 0} (stands : O → Member M → Type 0) (approves : J → Tx → Bool) where
   -- the holder of the keys is the node of the engine
-  pub same-me : (site : Site M) (core : Core O J M) (v : View M) → CoreStandsFor stands approves site core v → core.keys.me ≡ core.engine.sbac.me
+  pub same-me : (site : Site M) (core : Core O J M) (v : View M) → CoreStandsFor stands approves site core v → core.own.keys.me ≡ core.engine.sbac.me
   same-me _ core v is = is.me_is ∙ sym (ap (λ (u : View M). u.me) is.keeps.view_is)
 
   -- what was drafted is sealed
   pub event-sealed : (site : Site M) (core : Core O J M) (engine : Engine O J M) (v : View M) (input : Input) (draft : Draft) (made : Made) → CoreStandsFor stands approves site core v
       → Drafts site v input draft (KeepsView stands approves site.setup engine) → made.notes ≡ draft.notes
-      → (AllReached core.keys (spoken draft.said) → made.outs ≡ outs_for site.net core.keys.me (spoken draft.said))
-      → Event site v input made (CoreStandsFor stands approves site (record { keys = core.keys; engine = engine }))
+      → (AllReached core.own.keys (spoken draft.said) → made.outs ≡ outs_for site.net core.own.keys.me (spoken draft.said))
+      → Event site v input made (CoreStandsFor stands approves site (record { own = core.own; engine = engine }))
   event-sealed site core engine v input draft made is drafts notes outs =
       let net : Net = site.net in
       let marks : List (Mark M) = event_marks site v input in
-      let reached : AllReached core.keys (spoken draft.said) = subst (AllReached core.keys) (sym drafts.marks.tells.said) (event-reached stands approves site core v input is) in
+      let reached : AllReached core.own.keys (spoken draft.said) = subst (AllReached core.own.keys) (sym drafts.marks.tells.said) (event-reached stands approves site core v input is) in
       record {
         notes = notes ∙ drafts.marks.tells.notes;
-        outs = outs reached ∙ ap (outs_for net core.keys.me) drafts.marks.tells.said ∙ outs-same net core.keys.me (signs_of marks) ∙ ap (λ (n : NodeId). outs_of net n (signs_of marks)) is.me_is;
+        outs = outs reached ∙ ap (outs_for net core.own.keys.me) drafts.marks.tells.said ∙ outs-same net core.own.keys.me (signs_of marks) ∙ ap (λ (n : NodeId). outs_of net n (signs_of marks)) is.me_is;
         after = record {
           keeps = drafts.marks.after;
           me_is = is.me_is ∙ sym (me-after site marks v);
-          speaks = speaks-on core.engine.sbac.config engine.sbac.config net core.keys
+          speaks = speaks-on core.engine.sbac.config engine.sbac.config net core.own.keys
               (ap (λ (s : Setup). s.shards) (is.keeps.setup_is ∙ sym drafts.marks.after.setup_is)) (ap (λ (s : Setup). s.f) (is.keeps.setup_is ∙ sym drafts.marks.after.setup_is)) is.speaks;
           quiet = drafts.quiet;
         };

@@ -14,7 +14,7 @@ use Rattle.cs_node_pool.specs.Deployed.{deployed_setup}
 use Rattle.cs_sbac.specs.Held.{Held, bench_of}
 use Rattle.cs_node.specs.Drafts.{Draft}
 use Rattle.cs_node.specs.declared.engine.Engine.{Engine}
-use Rattle.cs_node.specs.declared.nodes.Core.{Core}
+use Rattle.cs_node.specs.declared.node_core.Core.{Core}
 use Rattle.cs_node.specs.Speaking.{Speaks}
 use Rattle.cs_node.specs.Steps.{node_view, MakesMarks, TurnDone}
 
@@ -53,8 +53,8 @@ pub record KeepsView {O J M : Type 0} (stands : O → Member M → Type 0) (appr
 pub record CoreStandsFor {O J M : Type 0} (stands : O → Member M → Type 0) (approves : J → Tx → Bool)
     (site : Site M) (core : Core O J M) (v : View M) : Type 0 where
   pub keeps : KeepsView stands approves site.setup core.engine v
-  pub me_is : core.keys.me ≡ v.me
-  pub speaks : Speaks core.engine.sbac.config site.net core.keys
+  pub me_is : core.own.keys.me ≡ v.me
+  pub speaks : Speaks core.engine.sbac.config site.net core.own.keys
   pub quiet : IsQuiet site v
 
 -- Where a call of an engine leads, as it keeps the view of its member and its log, at any genesis and in any net: what it

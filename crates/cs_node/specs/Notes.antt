@@ -1,8 +1,9 @@
 -- What the marks of an event tell, and what they say to others.
 use Rattle.std.specs.Prelude.{◌≡◌, List, [], ◌∷◌, ◌++◌, IsSome}
 use Rattle.cs_base.specs.declared.node_id.NodeId.{NodeId}
-use Rattle.cs_tx_types.specs.Session.{EntryFits}
+use Rattle.cs_tx_types.specs.Session.{ActionFits}
 use Rattle.cs_wire_message.specs.declared.message.Message.{Message}
+use Rattle.cs_base.specs.declared.version.Version.TheVariants.{One}
 use Rattle.cs_wire_message.specs.Message.{MessageFits}
 use Rattle.cs_wire.specs.declared.input.Out.{Out}
 use Rattle.cs_wire.specs.declared.keys.Keys.{Keys}
@@ -84,7 +85,7 @@ pub record TellsSigns (signs : List Sign) (old new : Draft) : Type 0 where
 abbrev pub NoteFits : Note → Type 0
 NoteFits (note.Dropped cause) = Unit {0}
 NoteFits (note.Viewed slot view) = Unit {0}
-NoteFits (note.Executed slot place entry effect) = EntryFits entry  -- an executed entry has an encoding
+NoteFits (note.Executed slot place action effect) = ActionFits action  -- an executed action has an encoding
 NoteFits (note.Headed number head) = Unit {0}
 
 abbrev pub NotesFit : List Note → Type 0
@@ -94,7 +95,7 @@ NotesFit (n ∷ notes) = NoteFits n × NotesFit notes
 -- what is said has a body
 abbrev pub AllSaidFit : List Said → Type 0
 AllSaidFit [] = Unit {0}
-AllSaidFit (said ∷ more) = MessageFits said.message × AllSaidFit more
+AllSaidFit (said ∷ more) = MessageFits One said.message × AllSaidFit more
 
 pub record DraftFits (draft : Draft) : Type 0 where
   pub notes : NotesFit draft.notes

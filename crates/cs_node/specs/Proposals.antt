@@ -1,6 +1,6 @@
 -- Proposed entries, as a node reads them.
 use Rattle.std.specs.Prelude.{ℕ, Bool, false, if◌then◌else◌, List, [], ◌∷◌, Option, Some, None}
-use Rattle.cs_tx_types.specs.declared.entry.Entry.{Entry}
+use Rattle.cs_tx_types.specs.declared.action.Action.{Action}
 use Rattle.cs_order.specs.declared.proposed.Proposed.{Proposed}
 use Rattle.cs_node_state.specs.Setup.{Setup}
 use Rattle.cs_node_state.specs.Pool.{Pool}
@@ -9,7 +9,7 @@ use Rattle.cs_node_rules.specs.Deployment.{entry_or_void}
 use Rattle.cs_node_wire.specs.Proposals.{entry_read}
 
 -- of bytes that are no entry a fixed one, which is Void
-abbrev pub entry_in : Proposed → Entry
+abbrev pub entry_in : Proposed → Action
 entry_in proposed = entry_or_void (entry_read proposed)
 
 abbrev pub pool_admits : Setup → ℕ → Pool → Proposed → Bool

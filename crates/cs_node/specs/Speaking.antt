@@ -28,5 +28,5 @@ sender_of (Err error) = None
 pub record Speaks (config : Config) (net : Net) (keys : Keys) : Type 0 where
   pub opens : (bytes : Bytes) → opened keys bytes ≡ net.opened keys.me bytes
   pub seals : (to : NodeId) (row : Row) → row_of to keys ≡ Some row →
-      (kind : ℕ) (body : Bytes) → datagram_with row.to keys.me to kind body ≡ net.datagram keys.me to kind body
+      (kind : ℕ) (body : Bytes) → datagram_with keys.version row.to keys.me to kind body ≡ net.datagram keys.me to kind body
   pub reaches : (to : NodeId) → is_node config to ≡ true → same_name to keys.me ≡ false → IsSome (row_of to keys)

@@ -1,6 +1,7 @@
 //! What an event has made so far.
 ghost use Rattle.std.specs.Prelude.{◌≡◌, ◌∷◌, ◌++◌, [], OnOk};
-ghost use Rattle.cs_tx_types.specs.Session.{EntryFits};
+ghost use Rattle.cs_tx_types.specs.Session.{ActionFits};
+ghost use Rattle.cs_base.specs.declared.version.Version.TheVariants.{One};
 ghost use Rattle.cs_wire_message.specs.Message.{MessageFits};
 ghost use Rattle.cs_node.specs.Notes.{nothing_said, TellsSigns};
 ghost use Rattle.cs_node_rules.specs.Signs.{Dropped, Viewed, Headed, Sent, sends};
@@ -8,7 +9,7 @@ ghost use Rattle.cs_node_rules.specs.Signs.{Dropped, Viewed, Headed, Sent, sends
 use cs_base::{Memory, NodeId, Sequence};
 use cs_node_rules::Cause;
 use cs_sbac::Effect;
-use cs_tx::{Digest, Entry};
+use cs_tx::{Action, Digest};
 use cs_wire_message::Message;
 use std::alloc::Global;
 use std::marker::Model;
@@ -27,7 +28,7 @@ pub enum Note {
     Executed {
         slot: u64,
         place: u8,
-        entry: Entry,
+        action: Action,
         effect: Effect,
     },
     /// A checkpoint was made.
@@ -44,7 +45,7 @@ pub struct Said {
     pub message: Message,
 }
 
-/// What an event has made so far, the oldest first. Executed entries have encodings, and what is
+/// What an event has made so far, the oldest first. Executed actions have encodings, and what is
 /// said has a body.
 #[derive(Drop)]
 pub struct Draft {
@@ -92,18 +93,18 @@ impl Draft {
         &mut self,
         slot: u64,
         place: u8,
-        entry: Entry,
+        action: Action,
         effect: Effect,
     ) -> Result<(), Memory>
-        requires { EntryFits entry }
-        ensures notes { let note = Note.Executed slot place entry effect in
+        requires { ActionFits action }
+        ensures notes { let note = Note.Executed slot place action effect in
             OnOk result (self.new.notes ≡ self.old.notes ++ note ∷ []) }
         ensures said { OnOk result (self.new.said ≡ self.old.said) }
     {
         self.notes.push(Note::Executed {
             slot,
             place,
-            entry,
+            action,
             effect,
         })?;
         Ok(())
@@ -127,7 +128,7 @@ impl Draft {
 
     /// Says something to these, one after the other.
     pub fn say_to(&mut self, to: Sequence<NodeId>, message: Message) -> Result<(), Memory>
-        requires { MessageFits message }
+        requires { MessageFits One message }
         ensures { OnOk result (TellsSigns (sends to message) self.old self.new) }
     {
         self.said.push(Said { to, message })?;
@@ -136,7 +137,7 @@ impl Draft {
 
     /// Says something to one.
     pub fn say(&mut self, alloc: Global, to: NodeId, message: Message) -> Result<(), Memory>
-        requires { MessageFits message }
+        requires { MessageFits One message }
         ensures { OnOk result (TellsSigns (Sent to message ∷ []) self.old self.new) }
     {
         let mut names = Sequence::new(alloc);

@@ -1,5 +1,6 @@
 //! What applies the rules of a node.
 ghost use Rattle.std.specs.Prelude.{◌≡◌, ◌++◌, ◌≤◌, ◌<◌, IfOk, OnOk, List, length, true};
+ghost use Rattle.cs_base.specs.declared.version.Version.TheVariants.{One};
 ghost use Rattle.cs_tx_value.specs.declared.object.Object.{Object as AnyObject};
 ghost use Rattle.cs_order.specs.declared.answers.May.TheVariants.{Free, Only};
 ghost use Rattle.cs_order.specs.Deeds.{Member, chosen_in};
@@ -43,6 +44,7 @@ impl<O: Carried, J: Judge + Drop> Engine<O, J> {
         draft: &mut Draft,
         input: Input<'_>,
     ) -> Result<(), Memory>
+        requires { keys.now.version ≡ One }
         ensures { keys.now.me ≡ self.old.sbac.me →
             Leads O.stands J.is_approved O.rules O.carrier self.old self.new (λ site v After.
             Speaks self.old.sbac.config site.net keys.now →

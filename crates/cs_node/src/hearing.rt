@@ -1,5 +1,6 @@
 //! What others say to a node.
 ghost use Rattle.std.specs.Prelude.{◌≡◌, ◌≢◌, ◌≤◌, ◌*◌, OnOk, true};
+ghost use Rattle.cs_base.specs.declared.version.Version.TheVariants.{One};
 ghost use Rattle.cs_wire_message.specs.Message.{MessageFits};
 ghost use Rattle.cs_node_rules.specs.Site.{Datagram};
 ghost use Rattle.cs_node_rules.specs.declared.cause.Cause.TheVariants.{Role};
@@ -35,6 +36,7 @@ impl<O: Carried, J: Judge + Drop> Engine<O, J> {
         draft: &mut Draft,
         bytes: &[u8],
     ) -> Result<(), Memory>
+        requires { keys.now.version ≡ One }
         ensures { keys.now.me ≡ self.old.sbac.me →
             Leads O.stands J.is_approved O.rules O.carrier self.old self.new (λ site v After.
             Speaks self.old.sbac.config site.net keys.now →
@@ -56,7 +58,7 @@ impl<O: Carried, J: Judge + Drop> Engine<O, J> {
         sender: NodeId,
         message: Message,
     ) -> Result<(), Memory>
-        requires { MessageFits message }
+        requires { MessageFits One message }
         ensures { LeadsBy O.stands J.is_approved O.rules O.carrier self.old self.new
             draft.old draft.new result (λ site v. message_marks site v sender message) }
     {
@@ -65,7 +67,10 @@ impl<O: Carried, J: Judge + Drop> Engine<O, J> {
                 submit(alloc, &mut self.sbac, &self.judge, draft, sender, session)
             }
             Message::Ask(key) => ask(alloc, &self.sbac, draft, sender, key),
-            Message::AskProof { slot } => ask_proof(alloc, &self.sbac, draft, sender, slot),
+            Message::AskProof {
+                slot,
+                place: _place,
+            } => ask_proof(alloc, &self.sbac, draft, sender, slot),
             Message::Voted {
                 vote,
                 asks,
@@ -96,7 +101,7 @@ impl<O: Carried, J: Judge + Drop> Engine<O, J> {
         sender: NodeId,
         message: Message,
     ) -> Result<(), Memory>
-        requires { MessageFits message }
+        requires { MessageFits One message }
         ensures { LeadsBy O.stands J.is_approved O.rules O.carrier self.old self.new
             draft.old draft.new result
             (λ site v. member_marks site v sender (O.carrier.read message)) }

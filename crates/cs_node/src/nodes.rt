@@ -1,6 +1,7 @@
 //! One node.
 ghost use Rattle.std.specs.Prelude.{◌≡◌, IfOk, List, true};
 ghost use Rattle.cs_base.specs.NodeId.{is_node};
+ghost use Rattle.cs_base.specs.declared.version.Version.TheVariants.{One};
 ghost use Rattle.cs_tx_value.specs.declared.object.Object.{Object as AnyObject};
 ghost use Rattle.cs_node_state.specs.Setup.{Setup};
 ghost use Rattle.cs_node_rules.specs.Net.{Net};
@@ -20,6 +21,7 @@ ghost use Rattle.cs_node.specs.Cores.{CoreStandsFor};
 
 use crate::draft::Draft;
 use crate::engine::Engine;
+use crate::node_core::{Core, OwnKeys};
 use crate::outs::{Made, seal_draft};
 use cs_base::{Config, Key, Memory, NodeId};
 use cs_check::{Chain, root_is_shown};
@@ -50,15 +52,8 @@ impl From<Memory> for StartError {
     }
 }
 
-/// One node: its keys, its order, its table, its pool, and what it keeps for checkpoints.
-#[derive(Drop)]
-pub struct Core<O: Order, J: Judge + Drop> {
-    keys: Keys,
-    engine: Engine<O, J>,
-}
-
 impl<O: Carried, J: Judge + Drop> Core<O, J> {
-    /// The node that holds the keys, before its first input. The genesis objects of all shards are
+    /// The node that holds the keys, which are of version 1, before its first input. The genesis objects of all shards are
     /// given, each under its key, by which the node knows those of its own.
     pub fn start(
         alloc: Global,
@@ -68,6 +63,7 @@ impl<O: Carried, J: Judge + Drop> Core<O, J> {
         genesis: &[(Key, Object)],
         order: O,
     ) -> Result<Core<O, J>, StartError>
+        requires first { keys.version ≡ One }
         requires node { is_node config keys.me ≡ true }
         requires objects { AreObjects genesis.now }
         requires start { O.at_start order }
@@ -90,12 +86,13 @@ impl<O: Carried, J: Judge + Drop> Core<O, J> {
         root_is_shown(&table);
         let sbac = Sbac::new(alloc, config, me, table)?;
         let engine = Engine { order, judge, sbac };
-        Ok(Core { keys, engine })
+        let own = OwnKeys { keys };
+        Ok(Core { own, engine })
     }
 
     /// One event: the node after it, with what comes of an input, and of the rules until none
     /// applies. After a want of memory there is no node.
-    pub fn step(mut self, alloc: Global, input: Input<'_>) -> Result<(Core<O, J>, Made), Memory>
+    pub fn step(self, alloc: Global, input: Input<'_>) -> Result<(Core<O, J>, Made), Memory>
         ensures event { (setup : Setup) (net : Net) (v : View O.Message) →
             let site = site_of setup net O.rules O.carrier in
             CoreStandsFor O.stands J.is_approved site self v →
@@ -110,11 +107,12 @@ impl<O: Carried, J: Judge + Drop> Core<O, J> {
             (CoreStandsFor O.stands J.is_approved site stepped.0)) }
         ensures fits { IfOk result (λ stepped. NotesFit stepped.1.notes) }
     {
+        let Core { own, mut engine } = self;
         let mut draft = Draft::new(alloc);
-        self.engine.take_in(alloc, &self.keys, &mut draft, input)?;
-        self.engine.settle(alloc, &mut draft)?;
-        let made = seal_draft(alloc, &self.keys, draft)?;
-        Ok((self, made))
+        engine.take_in(alloc, &own.keys, &mut draft, input)?;
+        engine.settle(alloc, &mut draft)?;
+        let made = seal_draft(alloc, &own.keys, draft)?;
+        Ok((Core { own, engine }, made))
     }
 
     /// The name of the node.
@@ -122,7 +120,7 @@ impl<O: Carried, J: Judge + Drop> Core<O, J> {
         ensures { (site : Site O.Message) (v : View O.Message) →
             CoreStandsFor O.stands J.is_approved site self.now v → result ≡ v.me }
     {
-        self.keys.me()
+        self.own.keys.me()
     }
 
     /// The chain of its checkpoints.
@@ -140,7 +138,7 @@ impl<O: Carried, J: Judge + Drop> Core<O, J> {
             CoreStandsFor O.stands J.is_approved site self.now v →
             result ≡ sender_of (site.net.opened v.me bytes.now) }
     {
-        match open(&self.keys, bytes) {
+        match open(&self.own.keys, bytes) {
             Ok(found) => Some(found.0),
             Err(_) => None,
         }

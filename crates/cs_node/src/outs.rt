@@ -2,6 +2,7 @@
 ghost use Rattle.std.specs.Prelude.{◌≡◌, ◌≤◌, ◌++◌, ◌∷◌, [], length, IfOk, OnOk, IsSome};
 ghost use Rattle.cs_base.specs.declared.limits.TheConstants.{MOST_BODY};
 ghost use Rattle.cs_base.specs.declared.config.Config.{Config};
+ghost use Rattle.cs_base.specs.declared.version.Version.TheVariants.{One};
 ghost use Rattle.cs_wire_message.specs.Message.{MessageFits};
 ghost use Rattle.cs_wire.specs.Keys.{row_of};
 ghost use Rattle.cs_node_rules.specs.Net.{Net};
@@ -9,7 +10,7 @@ ghost use Rattle.cs_node.specs.Notes.{NotesFit, AllSaidFit, AllReached, to_each,
 ghost use Rattle.cs_node.specs.Speaking.{Speaks};
 
 use crate::draft::{Draft, Note, Said};
-use cs_base::{Memory, NodeId, Sequence};
+use cs_base::{Memory, NodeId, Sequence, Version};
 use cs_wire::{Keys, Out, SealError, seal_with};
 use cs_wire_message::{Message, body_of};
 use std::alloc::Global;
@@ -58,13 +59,13 @@ fn add_outs(
     message: &Message,
     outs: &mut Sequence<Out>,
 ) -> Result<(), Memory>
-    requires { MessageFits message.now }
+    requires { MessageFits One message.now }
     ensures { (config : Config) (net : Net) → Speaks config net keys.now →
         let each = to_each to.now message.now in
         AllReached keys.now each →
         OnOk result (outs.new ≡ outs.old ++ outs_for net keys.now.me each) }
 {
-    let body = body_of(alloc, message)?;
+    let body = body_of(alloc, message, Version::One)?;
     for i in 0..to.len() {
         add_out(alloc, keys, to[i], message.kind(), &body, outs)?;
     }

@@ -8,11 +8,11 @@ ghost use Rattle.cs_wire.specs.Keys.{IsOfMaster};
 ghost use Rattle.cs_node_rules.specs.Net.{net_of};
 ghost use Rattle.cs_node.specs.Speaking.{Speaks};
 
-/// A node whose keys a master key gave speaks in the net of that master key.
+/// A node whose keys a master key gave in version 1 speaks in the net of that master key.
 #[tactic(auto, using(crate::proofs::Masters::of_master))]
 pub fn keys_of_a_master_speak()
     ensures { (config : Config) (master : List ℕ) (liars : List NodeId)
         (me : NodeId) (keys : Keys) →
-        config.shards ≤ 16 → is_node config me ≡ true → IsOfMaster config master me keys →
+        config.shards ≤ 16 → config.version ≡ 1 → is_node config me ≡ true → IsOfMaster config master me keys →
         Speaks config (net_of config master liars) keys }
 {}

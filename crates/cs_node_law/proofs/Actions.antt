@@ -6,7 +6,8 @@ use Rattle.cs_base.specs.Lists.{IsIn}
 use Rattle.cs_order.specs.declared.proposed.Proposed.{Proposed}
 use Rattle.cs_order.specs.Deeds.{chosen_in}
 use Rattle.cs_ledger.specs.Table.{Effect}
-use Rattle.cs_node_state.specs.Setup.{Action, actions_of}
+use Rattle.cs_tx_types.specs.declared.action.Action.{Action}
+use Rattle.cs_node_state.specs.Setup.{actions_of}
 use Rattle.cs_node_rules.specs.Signs.{Sign}
 use Rattle.cs_node_rules.specs.Site.{Site, View}
 use Rattle.cs_node_state.specs.laws.Actions.{one_action, only_action}

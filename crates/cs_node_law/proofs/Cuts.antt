@@ -6,7 +6,8 @@ use Rattle.std.proofs.Math.Nat.{max-eq_left}
 use Rattle.std.proofs.lemmas.List.{length_push}
 use Rattle.cs_base.specs.declared.node_id.NodeId.{NodeId}
 use Rattle.cs_base.specs.NodeId.{same_name}
-use Rattle.cs_tx_types.specs.declared.entry.Entry.{Entry}
+use Rattle.cs_tx_types.specs.declared.action.Action.{Action}
+use Rattle.cs_base.specs.declared.version.Version.TheVariants.{One}
 use Rattle.cs_tx_types.specs.Log.{leaf_encoding}
 use Rattle.cs_wire_message.specs.declared.message.Message.{Message}
 use Rattle.cs_wire_message.specs.declared.message.Message.TheVariants as message
@@ -145,7 +146,7 @@ module _ {M : Type 0} (site : Site M) where
     abbrev deed : Deed M
     deed = Advanced (Chosen p) (site.machine.advancing v.member)
 
-    abbrev entry : Entry
+    abbrev entry : Action
     entry = site.entry_in p
 
     -- the deed, and what it handed out
@@ -179,7 +180,7 @@ module _ {M : Type 0} (site : Site M) where
         ∙ ran-log site first v v.me v.bench slot 0 entry x ran
 
     abbrev leaf : List ℕ
-    leaf = leaf_encoding (next_leaf w.bench entry (executed site.setup w.me.shard w.bench entry).effect)
+    leaf = leaf_encoding One (next_leaf w.bench entry (executed site.setup w.me.shard w.bench entry).effect)
 
     abbrev root : List ℕ
     root = root_under (executed site.setup w.me.shard w.bench entry).bench.keys (executed site.setup w.me.shard w.bench entry).bench.table
@@ -222,7 +223,7 @@ module _ {M : Type 0} (site : Site M) where
   TurnAlike v (Some fresh) = IsAlike (view_after site fresh v)
 
   module _ (v : View M) (alike : IsAlike v) where
-    stay-due : (o : Option Entry) → TurnAlike v (due_marks site v o)
+    stay-due : (o : Option Action) → TurnAlike v (due_marks site v o)
     stay-due None = tt
     stay-due (Some entry) =
         let deed : Deed M = Proposing (site.proposed_of entry) (site.machine.proposing v.member (site.proposed_of entry)) in

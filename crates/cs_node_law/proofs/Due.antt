@@ -2,8 +2,8 @@
 use Rattle.std.proofs.Common.{◌≡◌, ◌⊎◌, inl, inr, ℕ, Bool, true, false, if◌then◌else◌, List, [], ◌∷◌, Option, Some, None, ◌∙◌, subst, refl}
 use Rattle.cs_tx_types.specs.declared.vote.Vote.{Vote}
 use Rattle.cs_tx_types.specs.declared.vote.Vote.TheVariants.{Commit, Abort}
-use Rattle.cs_tx_types.specs.declared.entry.Entry.{Entry}
-use Rattle.cs_tx_types.specs.declared.entry.Entry.TheVariants.{Prepare, Decide}
+use Rattle.cs_tx_types.specs.declared.action.Action.{Action}
+use Rattle.cs_tx_types.specs.declared.action.Action.TheVariants.{Prepare, Decide}
 use Rattle.cs_base.specs.Lists.{IsIn}
 use Rattle.cs_base.specs.Options.{or_else}
 use Rattle.cs_node_state.specs.declared.pooled.Pooled.{Pooled}
@@ -14,13 +14,13 @@ use Rattle.cs_node_state.specs.Admission.{due_vote, decide_due, first_decided, f
 use Rattle.cs_node_law.proofs.Pools.{Place}
 
 -- the votes on this session decide so
-abbrev pub IsDecision : Setup → Pooled → Entry → Type 0
+abbrev pub IsDecision : Setup → Pooled → Action → Type 0
 IsDecision setup p entry = (vote : Vote) × (entry ≡ Decide vote p.session) × (is_decided setup.f (concerned setup p.session) vote p.ballots ≡ true)
 
-abbrev pub IsDueFrom : Setup → Pool → Entry → Type 0
+abbrev pub IsDueFrom : Setup → Pool → Action → Type 0
 IsDueFrom setup pool entry = (e : Place) × (IsIn e pool) × ((entry ≡ Prepare e.1.session) ⊎ IsDecision setup e.1 entry)
 
-later : (setup : Setup) (e : Place) (pool : Pool) (entry : Entry) → IsDueFrom setup pool entry → IsDueFrom setup (e ∷ pool) entry
+later : (setup : Setup) (e : Place) (pool : Pool) (entry : Action) → IsDueFrom setup pool entry → IsDueFrom setup (e ∷ pool) entry
 later setup e pool entry d = (d.0, inr d.1, d.2)
 
 voted : (f : ℕ) (shards : List ℕ) (p : Pooled) (vote : Vote) → due_vote f shards p ≡ Some vote → is_decided f shards vote p.ballots ≡ true
@@ -38,7 +38,7 @@ voted f shards p vote h = locked p.locked h
     locked true h = commits _ refl h
     locked false h = cc
 
-decided-from : (setup : Setup) (pool : Pool) (entry : Entry) → first_decided setup pool ≡ Some entry → IsDueFrom setup pool entry
+decided-from : (setup : Setup) (pool : Pool) (entry : Action) → first_decided setup pool ≡ Some entry → IsDueFrom setup pool entry
 decided-from setup [] entry h = cc
 decided-from setup (e ∷ pool) entry h = go (due_vote setup.f (concerned setup e.1.session) e.1) refl (decided-from setup pool entry) h
   where
@@ -48,7 +48,7 @@ decided-from setup (e ∷ pool) entry h = go (due_vote setup.f (concerned setup 
         let is : entry ≡ Decide vote e.1.session = cc in
         (e, inl refl, inr (vote, is, voted setup.f (concerned setup e.1.session) e.1 vote d))
 
-waiting-from : (setup : Setup) (pool : Pool) (entry : Entry) → first_waiting pool ≡ Some entry → IsDueFrom setup pool entry
+waiting-from : (setup : Setup) (pool : Pool) (entry : Action) → first_waiting pool ≡ Some entry → IsDueFrom setup pool entry
 waiting-from setup [] entry h = cc
 waiting-from setup (e ∷ pool) entry h = go e.1.locked (waiting-from setup pool entry) h
   where
@@ -56,9 +56,9 @@ waiting-from setup (e ∷ pool) entry h = go e.1.locked (waiting-from setup pool
     go true again h = later setup e pool entry (again h)
     go false again h = let is : entry ≡ Prepare e.1.session = cc in (e, inl refl, inl is)
 
-pub due-from : (setup : Setup) (pool : Pool) (entry : Entry) → due setup pool ≡ Some entry → IsDueFrom setup pool entry
+pub due-from : (setup : Setup) (pool : Pool) (entry : Action) → due setup pool ≡ Some entry → IsDueFrom setup pool entry
 due-from setup pool entry h = go (first_decided setup pool) refl h
   where
-    go : (o : Option Entry) → first_decided setup pool ≡ o → or_else o (first_waiting pool) ≡ Some entry → IsDueFrom setup pool entry
+    go : (o : Option Action) → first_decided setup pool ≡ o → or_else o (first_waiting pool) ≡ Some entry → IsDueFrom setup pool entry
     go (Some decided) f h = decided-from setup pool entry (f ∙ h)
     go None f h = waiting-from setup pool entry h

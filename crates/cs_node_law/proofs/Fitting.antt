@@ -1,6 +1,7 @@
 -- What a node was given, proposes, executes and says to nodes has an encoding.
 use Rattle.std.proofs.Common.{◌≡◌, ◌⊎◌, inl, inr, ℕ, ◌≤◌, ◌<◌, ◌^◌, true, false, List, [], ◌∷◌, ◌++◌, map, length, refl, sym, ap, ◌∙◌, subst, arith}
 use Rattle.std.specs.Prelude.{Ok, Err}
+use Rattle.std.specs.List.{AllByRecursion}
 use Rattle.cs_base.specs.Fields.{IsBytes}
 use Rattle.cs_base.specs.declared.config.Config.{Config}
 use Rattle.cs_base.specs.declared.node_id.NodeId.{NodeId}
@@ -8,16 +9,17 @@ use Rattle.cs_base.specs.NodeId.{is_client}
 use Rattle.cs_base.proofs.Forms.{whole-again}
 use Rattle.cs_tx_value.specs.declared.object.Object.{Object}
 use Rattle.cs_tx_types.specs.declared.session.Session.{Session}
-use Rattle.cs_tx_types.specs.declared.entry.Entry.{Entry}
-use Rattle.cs_tx_types.specs.declared.entry.Entry.TheVariants.{Prepare, Decide}
-use Rattle.cs_tx_types.specs.Session.{SessionFits, entry_encoding, EntryFits, session_in}
-use Rattle.cs_tx_types.specs.Reading.{entry_at}
-use Rattle.cs_tx_types.specs.laws.Session.{entry_form}
+use Rattle.cs_tx_types.specs.declared.action.Action.{Action}
+use Rattle.cs_tx_types.specs.declared.action.Action.TheVariants.{Prepare, Decide}
+use Rattle.cs_tx_types.specs.Session.{SessionFits, action_encoding, ActionFits, session_in}
+use Rattle.cs_tx_types.specs.Reading.{action_at}
+use Rattle.cs_tx_types.specs.laws.Session.{action_form}
 use Rattle.cs_wire_message.specs.declared.message.Message.{Message}
 use Rattle.cs_wire_message.specs.declared.message.Message.TheVariants as message
+use Rattle.cs_base.specs.declared.version.Version.TheVariants.{One}
 use Rattle.cs_wire_message.specs.Message.{body_of, MessageFits}
 use Rattle.cs_wire_message.proofs.Short.{body_short}
-use Rattle.cs_wire.specs.Opened.{Opened, keys_of_master}
+use Rattle.cs_wire.specs.Opened.{Opened}
 use Rattle.cs_order.specs.declared.proposed.Proposed.{Proposed}
 use Rattle.cs_order.specs.declared.answers.May.TheVariants.{Only}
 use Rattle.cs_base.specs.Lists.{IsIn}
@@ -27,13 +29,13 @@ use Rattle.cs_order.specs.Law.{Holds}
 use Rattle.cs_ledger.specs.Ledger.{Bytes}
 use Rattle.cs_ledger.specs.Session as Seen
 use Rattle.cs_ledger.proofs.Basics.{in_either}
-use Rattle.cs_node_rules.specs.Net.{net_of}
+use Rattle.cs_node_rules.specs.Net.{first_keys, net_of}
 use Rattle.cs_node_rules.specs.Signs.{Dropped, Took, Entered, Viewed, Did, Headed, Kept, Sent}
 use Rattle.cs_node_rules.specs.Site.{Input, Datagram, Tick, Mark, In, Ordered, Plain, Carrier, Site, signs_of}
 use Rattle.cs_node_rules.specs.Collisions.{sessions_in, entries_in, in_opened, given}
 use Rattle.cs_node_rules.specs.Carrying.{IsEntry, Carries}
 use Rattle.cs_node_rules.specs.Deployment.{proposed_of, entry_or_void, site_of}
-use Rattle.cs_node_state.specs.Setup.{Action, actions_of}
+use Rattle.cs_node_state.specs.Setup.{actions_of}
 use Rattle.cs_node_state.specs.Deployed.{setup_of}
 use Rattle.cs_node_state.specs.laws.Actions.{each_action}
 use Rattle.cs_node_law.specs.Made.{view_at, HasVotedOn, IsTaken, IsDue, IsCandidate, NodeExecutes, HasDigests, IsHanded, SaidMade, AllMade, ReadsProper, InputFits}
@@ -50,38 +52,41 @@ use Rattle.cs_node_law.proofs.Heads.{bytes-head, length-head}
 
 -- ---- what stands in messages
 
-pub session-fits : (entry : Entry) → EntryFits entry → SessionFits (session_in entry)
+pub session-fits : (entry : Action) → ActionFits entry → SessionFits (session_in entry)
 session-fits (Prepare x) fits = fits
 session-fits (Decide vote x) fits = fits
 
-pub entry-fits : (entry : Entry) → SessionFits (session_in entry) → EntryFits entry
+pub entry-fits : (entry : Action) → SessionFits (session_in entry) → ActionFits entry
 entry-fits (Prepare x) fits = fits
 entry-fits (Decide vote x) fits = fits
 
--- the sessions of an entry
-in-actions : (entry : Entry) → EntryFits entry → (actions : List Action) → ((action : Action) → IsIn action actions → IsIn action (actions_of entry)) → (x : Session) → IsIn x (map session_in actions) → SessionFits x
-in-actions entry fits [] within x i = absurd i
-in-actions entry fits (action ∷ more) within x (inl e) = subst SessionFits (sym e) (session-fits action (each_action EntryFits entry fits action (within action (inl refl))))
-in-actions entry fits (action ∷ more) within x (inr i) = in-actions entry fits more (λ a j. within a (inr j)) x i
+-- the sessions of actions, and the actions
+in-actions : (actions : List Action) → AllByRecursion ActionFits actions → (x : Session) → IsIn x (map session_in actions) → SessionFits x
+in-actions [] fits x i = absurd i
+in-actions (action ∷ more) fits x (inl e) = subst SessionFits (sym e) (session-fits action fits.0)
+in-actions (action ∷ more) fits x (inr i) = in-actions more fits.1 x i
 
-pub sessions-fit : (said : Message) → MessageFits said → (x : Session) → IsIn x (sessions_in said) → SessionFits x
+each-fits : (actions : List Action) → AllByRecursion ActionFits actions → (action : Action) → IsIn action actions → ActionFits action
+each-fits [] fits action i = absurd i
+each-fits (one ∷ more) fits action (inl e) = subst ActionFits (sym e) fits.0
+each-fits (one ∷ more) fits action (inr i) = each-fits more fits.1 action i
+
+pub sessions-fit : (said : Message) → MessageFits One said → (x : Session) → IsIn x (sessions_in said) → SessionFits x
 sessions-fit (message.Submit y) fits x (inl e) = subst SessionFits (sym e) fits
 sessions-fit (message.Submit y) fits x (inr none) = absurd none
-sessions-fit (message.Propose slot view entry) fits x i = in-actions entry fits.1.1 (actions_of entry) (λ a j. j) x i
+sessions-fit (message.Propose slot view entry) fits x i = in-actions entry.actions fits.1.1.1 x i
 sessions-fit (message.Voted vote asks y) fits x (inl e) = subst SessionFits (sym e) fits
 sessions-fit (message.Voted vote asks y) fits x (inr none) = absurd none
-sessions-fit (message.Done slot entry) fits x i = in-actions entry fits.1 (actions_of entry) (λ a j. j) x i
+sessions-fit (message.Done slot entry) fits x i = in-actions entry.actions fits.1.1 x i
 sessions-fit said fits x i = absurd i
 
-pub entries-fit : (said : Message) → MessageFits said → (entry : Entry) → IsIn entry (entries_in said) → EntryFits entry
-entries-fit (message.Propose slot view other) fits entry (inl e) = subst EntryFits (sym e) fits.1.1
-entries-fit (message.Propose slot view other) fits entry (inr none) = absurd none
-entries-fit (message.Done slot other) fits entry (inl e) = subst EntryFits (sym e) fits.1
-entries-fit (message.Done slot other) fits entry (inr none) = absurd none
+pub entries-fit : (said : Message) → MessageFits One said → (entry : Action) → IsIn entry (entries_in said) → ActionFits entry
+entries-fit (message.Propose slot view other) fits entry i = each-fits other.actions fits.1.1.1 entry i
+entries-fit (message.Done slot other) fits entry i = each-fits other.actions fits.1.1 entry i
 entries-fit said fits entry i = absurd i
 
 -- an entry of a message, as it is proposed
-written-entry : (entries : List Entry) (p : Proposed) → IsIn p (map proposed_of entries) → (entry : Entry) × (IsIn entry entries) × (p ≡ proposed_of entry)
+written-entry : (entries : List Action) (p : Proposed) → IsIn p (map proposed_of entries) → (entry : Action) × (IsIn entry entries) × (p ≡ proposed_of entry)
 written-entry [] p i = absurd i
 written-entry (entry ∷ entries) p (inl e) = (entry, inl refl, e)
 written-entry (entry ∷ entries) p (inr i) = let r = written-entry entries p i in (r.0, inr r.1, r.2)
@@ -105,12 +110,12 @@ module _ {M : Type 0} (machine : Machine M) (carrier : Carrier M) (config : Conf
   At = deployment machine carrier config master liars genesis session_of
 
   pub input-fits : (me : NodeId) (input : Input) → InputIsBytes input → InputFits At me input
-  input-fits me (Datagram bytes) fits = λ sender said e. opened-fits (keys_of_master config master me) bytes (sender, said) fits e
+  input-fits me (Datagram bytes) fits = λ sender said e. opened-fits (first_keys config master me) bytes (sender, said) fits e
   input-fits me Tick fits = tt
 
   -- what stood in the inputs fits
-  module _ {A : Type 0} (those : Message → List A) (Fits : A → Type 0) (each : (said : Message) → MessageFits said → (a : A) → IsIn a (those said) → Fits a) (me : NodeId) where
-    opened-in : (o : Opened) (a : A) → ((sender : NodeId) (said : Message) → o ≡ Ok (sender, said) → MessageFits said) → IsIn a (in_opened those o) → Fits a
+  module _ {A : Type 0} (those : Message → List A) (Fits : A → Type 0) (each : (said : Message) → MessageFits One said → (a : A) → IsIn a (those said) → Fits a) (me : NodeId) where
+    opened-in : (o : Opened) (a : A) → ((sender : NodeId) (said : Message) → o ≡ Ok (sender, said) → MessageFits One said) → IsIn a (in_opened those o) → Fits a
     opened-in (Ok said) a fits i = each said.1 (fits said.0 said.1 refl) a i
     opened-in (Err error) a fits i = absurd i
 
@@ -158,17 +163,17 @@ module _ {M : Type 0} (machine : Machine M) (carrier : Carrier M) (config : Conf
             ]
 
         -- what the order gives back was handed in
-        pub given-back : (p : Proposed) → IsEntry p → EntryFits (At.entry_in p)
+        pub given-back : (p : Proposed) → IsEntry p → ActionFits (At.entry_in p)
         given-back p is =
-            let same : At.entry_in p ≡ is.entry = ap (λ (q : Proposed). At.entry_in q) is.is ∙ ap entry_or_void (whole-again entry_encoding EntryFits entry_at entry_form is.entry is.fits) in
-            subst EntryFits (sym same) is.fits
+            let same : At.entry_in p ≡ is.entry = ap (λ (q : Proposed). At.entry_in q) is.is ∙ ap entry_or_void (whole-again action_encoding ActionFits action_at action_form is.entry is.fits) in
+            subst ActionFits (sym same) is.fits
 
         taken-fits : (from : ℕ) (m : M) → IsTaken At (view_at At me t) t from m → (p : Proposed) → IsIn p (machine.carried m) → IsEntry p
         taken-fits from m taken p i =
             let w = written-entry (entries_in taken.said) p (subst (λ (ps : List Proposed). IsIn p ps) (carries.entries taken.said m taken.reads) i) in
             record {
               entry = w.0;
-              fits = given-fits entries_in EntryFits entries-fit (view_at At me t).me t bytes w.0 (heard-given At entries_in me t _ taken.said w.0 taken.heard w.1);
+              fits = given-fits entries_in ActionFits entries-fit (view_at At me t).me t bytes w.0 (heard-given At entries_in me t _ taken.said w.0 taken.heard w.1);
               is = w.2;
             }
 
@@ -177,8 +182,8 @@ module _ {M : Type 0} (machine : Machine M) (carrier : Carrier M) (config : Conf
             let from = due-from At.setup (view_at At me t).bench.pool due.entry due.due in
             let fits : SessionFits (session_in due.entry) =
             elim from.2 [
-              | inl prepare ↦ subst (λ (e : Entry). SessionFits (session_in e)) (sym prepare) (pool-fits from.0 from.1)
-              | inr decide ↦ subst (λ (e : Entry). SessionFits (session_in e)) (sym decide.1) (pool-fits from.0 from.1)
+              | inl prepare ↦ subst (λ (e : Action). SessionFits (session_in e)) (sym prepare) (pool-fits from.0 from.1)
+              | inr decide ↦ subst (λ (e : Action). SessionFits (session_in e)) (sym decide.1) (pool-fits from.0 from.1)
             ] in
             record { entry = due.entry; fits = entry-fits due.entry fits; is = due.is }
 
@@ -191,9 +196,9 @@ module _ {M : Type 0} (machine : Machine M) (carrier : Carrier M) (config : Conf
         proposed-fits p (inl due) = due-fits p due
         proposed-fits p (inr candidate) = candidate-fits p candidate
 
-        pub done-fits : (slot place : ℕ) (action : Action) (effect : _) → NodeExecutes At (view_at At me t) (signs_of t) slot place action effect → EntryFits action
+        pub done-fits : (slot place : ℕ) (action : Action) (effect : _) → NodeExecutes At (view_at At me t) (signs_of t) slot place action effect → ActionFits action
         done-fits slot place action effect e =
-            each_action EntryFits (At.entry_in e.proposed) (given-back e.proposed (fit.held e.proposed (holds.logged config.f me.index (Deeds t) (kept t made) slot e.proposed e.chosen)))
+            each_action ActionFits (At.entry_in e.proposed) (given-back e.proposed (fit.held e.proposed (holds.logged config.f me.index (Deeds t) (kept t made) slot e.proposed e.chosen)))
             action (got-in (actions_of (At.entry_in e.proposed)) place action e.within)
 
       -- the deeds that hand nothing in
@@ -230,22 +235,22 @@ module _ {M : Type 0} (machine : Machine M) (carrier : Carrier M) (config : Conf
           record {
             held = f.held;
             voted = λ x h. elim h [
-              | inl now ↦ subst (λ (e : Entry). SessionFits (session_in e)) now.0 (session-fits entry (done-fits t made.1 bytes f slot place entry effect made.0))
+              | inl now ↦ subst (λ (e : Action). SessionFits (session_in e)) now.0 (session-fits entry (done-fits t made.1 bytes f slot place entry effect made.0))
               | inr old ↦ f.voted x old
             ];
           }
 
       -- ---- what it sends
 
-      handed-fits : (said : Message) (to : ℕ) (deeds : List (Deed M)) → IsHanded At to said deeds → MessageFits said
+      handed-fits : (said : Message) (to : ℕ) (deeds : List (Deed M)) → IsHanded At to said deeds → MessageFits One said
       handed-fits said to [] h = absurd h
-      handed-fits said to (deed ∷ deeds) (inl h) = subst MessageFits h.1.1 (carries.fits h.0)
+      handed-fits said to (deed ∷ deeds) (inl h) = subst (MessageFits One) h.1.1 (carries.fits h.0)
       handed-fits said to (deed ∷ deeds) (inr h) = handed-fits said to deeds h
 
       -- it is within the limits, or asks for a slot, or tells a checkpoint
       abbrev pub IsSpoken : Message → Type 0
       IsSpoken said =
-          MessageFits said
+          MessageFits One said
           ⊎ (((slot : ℕ) × (said ≡ message.Want slot)) ⊎ ((c : Checkpoint) × (said ≡ message.Head c) × HasDigests c))
 
       no-client : (to : NodeId) → is_client to ≡ false → is_client to ≡ true → ⊥
@@ -267,14 +272,14 @@ module _ {M : Type 0} (machine : Machine M) (carrier : Carrier M) (config : Conf
 
 -- what is spoken so is made of bytes, and short
 pub spoken-bytes : (said : Message)
-    → MessageFits said ⊎ (((slot : ℕ) × (said ≡ message.Want slot)) ⊎ ((c : Checkpoint) × (said ≡ message.Head c) × HasDigests c))
-    → IsBytes (body_of said) × (length (body_of said) < 2 ^ 32)
-spoken-bytes said (inl fits) = (bytes-body said fits, short (length (body_of said)) (body_short said fits))
+    → MessageFits One said ⊎ (((slot : ℕ) × (said ≡ message.Want slot)) ⊎ ((c : Checkpoint) × (said ≡ message.Head c) × HasDigests c))
+    → IsBytes (body_of One said) × (length (body_of One said) < 2 ^ 32)
+spoken-bytes said (inl fits) = (bytes-body One said fits, short (length (body_of One said)) (body_short One said fits))
   where
     short : (n : ℕ) → n ≤ 32719 → n < 2 ^ 32
     short n a = omega arith
 spoken-bytes said (inr (inl want)) =
-    subst (λ (m : Message). IsBytes (body_of m) × (length (body_of m) < 2 ^ 32)) (sym want.1) (bytes-want want.0, omega arith)
+    subst (λ (m : Message). IsBytes (body_of One m) × (length (body_of One m) < 2 ^ 32)) (sym want.1) (bytes-want One want.0, omega arith)
 spoken-bytes said (inr (inr head)) =
-    subst (λ (m : Message). IsBytes (body_of m) × (length (body_of m) < 2 ^ 32)) (sym head.1)
+    subst (λ (m : Message). IsBytes (body_of One m) × (length (body_of One m) < 2 ^ 32)) (sym head.1)
     (bytes-head head.0 head.2, omega (arith, length-head head.0 head.2))

@@ -11,8 +11,9 @@ use Rattle.cs_merkle.specs.Tree.{Tree, Empty, Leaf, Node, hash, tree_of, merkle_
 use Rattle.cs_tx_value.specs.Object.{DigestFits}
 use Rattle.cs_tx_types.specs.declared.checkpoint.Checkpoint.{Checkpoint}
 use Rattle.cs_wire_message.specs.declared.message.Message.TheVariants as message
+use Rattle.cs_base.specs.declared.version.Version.TheVariants.{One}
 use Rattle.cs_wire_message.specs.Message.{body_of}
-use Rattle.cs_wire_message.proofs.Bytes.{bytes-append, bytes-16}
+use Rattle.cs_wire_message.proofs.Bytes.{bytes-append, bytes-nil, bytes-16}
 use Rattle.cs_wire_message.proofs.Spelled.{bytes-want}
 use Rattle.cs_check_rules.specs.Chain.{Log, with_slot, no_head, head_of, head_before, checkpoint_of, chain_head, made_last}
 use Rattle.cs_node_law.specs.Made.{HasDigests}
@@ -92,21 +93,24 @@ module _ (log : Log) (leaf root : List ℕ) (fits : DigestFits root) where
 
 -- ---- the body that tells it
 
-pub bytes-head : (c : Checkpoint) → HasDigests c → IsBytes (body_of (message.Head c))
+pub bytes-head : (c : Checkpoint) → HasDigests c → IsBytes (body_of One (message.Head c))
 bytes-head c digests =
-    let roots = c.leaf_root ++ c.table_root in
+    let last = c.table_root ++ [] in
+    let roots = c.leaf_root ++ last in
     let hashes = c.previous ++ roots in
     bytes-append (to_be_bytes w16 c.shard) (to_be_bytes w64 c.number ++ hashes) (bytes-16 c.shard)
-    (bytes-append (to_be_bytes w64 c.number) hashes (bytes-want c.number)
+    (bytes-append (to_be_bytes w64 c.number) hashes (bytes-want One c.number)
     (bytes-append c.previous roots digests.previous.1
-    (bytes-append c.leaf_root c.table_root digests.leaf_root.1 digests.table_root.1)))
+    (bytes-append c.leaf_root last digests.leaf_root.1 (bytes-append c.table_root [] digests.table_root.1 bytes-nil))))
 
-pub length-head : (c : Checkpoint) → HasDigests c → length (body_of (message.Head c)) ≡ 106
+pub length-head : (c : Checkpoint) → HasDigests c → length (body_of One (message.Head c)) ≡ 106
 length-head c digests =
-    let roots = c.leaf_root ++ c.table_root in
+    let last = c.table_root ++ [] in
+    let roots = c.leaf_root ++ last in
     let hashes = c.previous ++ roots in
     let behind_shard = length-append (to_be_bytes w16 c.shard) (to_be_bytes w64 c.number ++ hashes) in
     let behind_number = length-append (to_be_bytes w64 c.number) hashes in
     let behind_previous = length-append c.previous roots in
-    let of_roots = length-append c.leaf_root c.table_root in
-    omega (arith, behind_shard, behind_number, behind_previous, of_roots, digests.previous.0, digests.leaf_root.0, digests.table_root.0)
+    let of_roots = length-append c.leaf_root last in
+    let of_last = length-append c.table_root [] in
+    omega (arith, behind_shard, behind_number, behind_previous, of_roots, of_last, digests.previous.0, digests.leaf_root.0, digests.table_root.0)

@@ -211,7 +211,7 @@ module _ {M : Type 0} (site : Site M) (me : NodeId) (t : List (Mark M)) (bytes :
     heard-level : (sender : NodeId) (said : Message) → Says sender said → Marks (plain (said_signs site.setup Now.me Now.bench sender said))
     heard-level sender (message.Submit x) e = submits sender x e
     heard-level sender (message.Ask asked) e = asks sender asked
-    heard-level sender (message.AskProof slot) e = tested (is_client sender) Role _ (λ client. proved sender client (proof_of Now.bench.log slot))
+    heard-level sender (message.AskProof slot place) e = tested (is_client sender) Role _ (λ client. proved sender client (proof_of Now.bench.log slot))
     heard-level sender (message.Voted vote again x) e = votes sender vote again x e
     heard-level sender (message.Head checkpoint) e =
         tested (is_other_member site.setup.f Now.me sender) Role _

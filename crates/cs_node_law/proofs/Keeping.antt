@@ -5,7 +5,7 @@ use Rattle.cs_base.specs.declared.node_id.NodeId.{NodeId}
 use Rattle.cs_tx_types.specs.declared.session.Session.{Session}
 use Rattle.cs_tx_types.specs.declared.vote.Vote.{Vote}
 use Rattle.cs_tx_types.specs.declared.vote.Vote.TheVariants.{Commit}
-use Rattle.cs_tx_types.specs.declared.entry.Entry.{Entry}
+use Rattle.cs_tx_types.specs.declared.action.Action.{Action}
 use Rattle.cs_tx_types.specs.declared.checkpoint.Checkpoint.{Checkpoint}
 use Rattle.cs_wire_message.specs.declared.message.Message.{Message}
 use Rattle.cs_wire_message.specs.declared.message.Message.TheVariants as message
@@ -99,7 +99,7 @@ module _ {M : Type 0} (site : Site M) where
   log-ahead a b past v kept = ap (λ (t : List (Mark M)). (view_after site t v).bench.log) (plain-onto a b past) ∙ log-said a (plain b ++ past) v kept
 
   -- an execution, with the session that it brings into the pool, the votes that are sent and the node's own: one slot more
-  pub ran-log : (past : List (Mark M)) (v : View M) (who : NodeId) (b : Bench) (slot place : ℕ) (entry : Entry) (x : Session) (ran : Ran) → let w = view_after site past v in
+  pub ran-log : (past : List (Mark M)) (v : View M) (who : NodeId) (b : Bench) (slot place : ℕ) (entry : Action) (x : Session) (ran : Ran) → let w = view_after site past v in
       (view_after site (plain (ran_signs site.setup who b slot place entry x ran) ++ past) v).bench.log ≡ (slot_executed site.setup w.me.shard w.bench entry).log
   ran-log past v who b slot place entry x ran =
       let told = vote_told site.setup who.shard x ran in

@@ -1,8 +1,8 @@
 -- The table of a node is that of its log, and the votes that it gave are those of its log.
 use Rattle.std.proofs.Common.{◌≡◌, ℕ, ◌&&◌, ◌||◌, List, [], ◌∷◌, refl, ap, ◌∙◌}
 use Rattle.cs_base.specs.declared.node_id.NodeId.{NodeId}
-use Rattle.cs_tx_types.specs.declared.entry.Entry.{Entry}
-use Rattle.cs_tx_types.specs.declared.entry.Entry.TheVariants.{Prepare, Decide}
+use Rattle.cs_tx_types.specs.declared.action.Action.{Action}
+use Rattle.cs_tx_types.specs.declared.action.Action.TheVariants.{Prepare, Decide}
 use Rattle.cs_ledger.specs.Ledger.{Bytes}
 use Rattle.cs_ledger.specs.Table.{Vote, Effect, Table, exec, table_of}
 use Rattle.cs_ledger.specs.Table as Shard
@@ -13,7 +13,7 @@ use Rattle.cs_node_rules.specs.Site.{Mark, In, Ordered, Plain, Site, signs_of}
 use Rattle.cs_node_law.specs.Made.{view_at, log_in, has_given, AllMade}
 
 -- a log, as the ledger sees it
-abbrev pub seen : Setup → List Entry → List Shard.Entry
+abbrev pub seen : Setup → List Action → List Shard.Entry
 seen setup [] = []
 seen setup (entry ∷ log) = entry_of setup entry ∷ seen setup log
 
@@ -35,12 +35,12 @@ table-is {M} site me (Plain (Did slot place entry effect) ∷ t) =
     ap (λ (u : Table). (exec site.setup.rules (view_at site me t).me.shard u (entry_of site.setup entry)).table) (table-is site me t)
 
 -- what an execution on the table of the log came to
-pub effect-is : {M : Type 0} (site : Site M) (me : NodeId) (t : List (Mark M)) (slot place : ℕ) (entry : Entry) (effect : Effect) → AllMade site me (Plain (Did slot place entry effect) ∷ t)
+pub effect-is : {M : Type 0} (site : Site M) (me : NodeId) (t : List (Mark M)) (slot place : ℕ) (entry : Action) (effect : Effect) → AllMade site me (Plain (Did slot place entry effect) ∷ t)
     → effect ≡ (exec site.setup.rules (view_at site me t).me.shard (table_of site.setup.rules (view_at site me t).me.shard (seen_log site t)) (entry_of site.setup entry)).effect
 effect-is {M} site me t slot place entry effect made =
     made.0.computed ∙ ap (λ (u : Table). (exec site.setup.rules (view_at site me t).me.shard u (entry_of site.setup entry)).effect) (table-is site me t)
 
-pub prepares-seen : (setup : Setup) (d : Bytes) (entry : Entry) → prepares setup d entry ≡ is_prepare_of d (entry_of setup entry)
+pub prepares-seen : (setup : Setup) (d : Bytes) (entry : Action) → prepares setup d entry ≡ is_prepare_of d (entry_of setup entry)
 prepares-seen setup d (Prepare x) = refl
 prepares-seen setup d (Decide vote x) = refl
 

@@ -8,8 +8,8 @@ use Rattle.cs_base.specs.Lists.{IsIn}
 use Rattle.cs_base.specs.declared.node_id.NodeId.{NodeId}
 use Rattle.cs_tx_types.specs.declared.session.Session.{Session}
 use Rattle.cs_tx_types.specs.declared.vote.Vote.{Vote}
-use Rattle.cs_tx_types.specs.declared.entry.Entry.{Entry}
-use Rattle.cs_tx_types.specs.declared.entry.Entry.TheVariants.{Prepare, Decide}
+use Rattle.cs_tx_types.specs.declared.action.Action.{Action}
+use Rattle.cs_tx_types.specs.declared.action.Action.TheVariants.{Prepare, Decide}
 use Rattle.cs_wire_message.specs.declared.message.Message.{Message}
 use Rattle.cs_wire.specs.Opened.{Opened}
 use Rattle.cs_ledger.specs.Ledger.{Bytes}
@@ -180,10 +180,10 @@ voted-fit {M} site me x (Plain (Did slot place entry effect) ∷ t) made (inl no
     let v = view_at site me t in
     let came = sym made.0.computed ∙ now.1.1 in
     exec-fit site.setup.rules v.me.shard v.bench.table (Shard.Prepare (site.setup.session_of x)) now.1.0
-    (subst (λ (e : Entry). (Shard.exec site.setup.rules v.me.shard v.bench.table (entry_of site.setup e)).effect ≡ Voted now.1.0) now.0 came)
+    (subst (λ (e : Action). (Shard.exec site.setup.rules v.me.shard v.bench.table (entry_of site.setup e)).effect ≡ Voted now.1.0) now.0 came)
 
 -- what votes is a Prepare
-voted-prepare : (setup : Setup) (shard : ℕ) (t : Table) (entry : Entry) (vote : Shard.Vote) → (Shard.exec setup.rules shard t (entry_of setup entry)).effect ≡ Voted vote → entry ≡ Prepare (session_in entry)
+voted-prepare : (setup : Setup) (shard : ℕ) (t : Table) (entry : Action) (vote : Shard.Vote) → (Shard.exec setup.rules shard t (entry_of setup entry)).effect ≡ Voted vote → entry ≡ Prepare (session_in entry)
 voted-prepare setup shard t (Prepare x) vote e = refl
 voted-prepare setup shard t (Decide v x) vote e =
     let none = untold setup.rules shard t (setup.session_of x) (vote_of v) (λ o. false) in
@@ -276,6 +276,6 @@ pool-sourced {M} site me (Plain (Did slot place entry effect) ∷ t) made =
     (λ e i. sourced-more site _ mark t e (pool-sourced site me t made.1 e i))
     (λ vote is.
     let prepare = voted-prepare site.setup v.me.shard v.bench.table entry vote is in
-    let fit = exec-fit site.setup.rules v.me.shard v.bench.table (Shard.Prepare (site.setup.session_of (session_in entry))) vote (subst (λ (e : Entry). (Shard.exec site.setup.rules v.me.shard v.bench.table (entry_of site.setup e)).effect ≡ Voted vote) prepare is) in
+    let fit = exec-fit site.setup.rules v.me.shard v.bench.table (Shard.Prepare (site.setup.session_of (session_in entry))) vote (subst (λ (e : Action). (Shard.exec site.setup.rules v.me.shard v.bench.table (entry_of site.setup e)).effect ≡ Voted vote) prepare is) in
     (fit, inl (prepare, (vote, made.0.computed ∙ is))))
     (λ held. locks-given site me (mark ∷ t) (session_in entry) made held)

@@ -7,8 +7,8 @@ use Rattle.cs_tx.specs.Votes.{vote_of}
 use Rattle.cs_base.specs.declared.node_id.NodeId.{NodeId}
 use Rattle.cs_tx_types.specs.declared.session.Session.{Session}
 use Rattle.cs_tx_types.specs.declared.vote.Vote as Tx
-use Rattle.cs_tx_types.specs.declared.entry.Entry.{Entry}
-use Rattle.cs_tx_types.specs.declared.entry.Entry.TheVariants.{Prepare, Decide}
+use Rattle.cs_tx_types.specs.declared.action.Action.{Action}
+use Rattle.cs_tx_types.specs.declared.action.Action.TheVariants.{Prepare, Decide}
 use Rattle.cs_wire_message.specs.declared.message.Message.TheVariants as message
 use Rattle.cs_order.specs.declared.proposed.Proposed.{Proposed}
 use Rattle.cs_order.specs.declared.answers.Step.{Step}
@@ -23,7 +23,7 @@ use Rattle.cs_ledger.specs.Table.{Vote, Commit, Abort, Effect, Voted, Accepted, 
 use Rattle.cs_ledger.specs.Table as Shard
 use Rattle.cs_ledger.specs.ShardWorld.{is_vote}
 use Rattle.cs_ledger.proofs.Basics.{bytes_refl}
-use Rattle.cs_node_state.specs.Setup.{Action, actions_of, Setup, digest_of, concerned, vote_from}
+use Rattle.cs_node_state.specs.Setup.{actions_of, Setup, digest_of, concerned, vote_from}
 use Rattle.cs_tx_types.specs.Session.{session_in}
 use Rattle.cs_node_state.specs.Admission.{due}
 use Rattle.cs_node_rules.specs.Members.{others}
@@ -34,6 +34,7 @@ use Rattle.cs_node_rules.specs.Site.{Mark, Ordered, Plain, Site, View, start_vie
 use Rattle.cs_node_rules.specs.Trail.{with_deed, admits_proposed, due_marks, candidate_marks, propose_marks, echo_marks, cut_marks, step_marks, turn_marks, continued, settled}
 use Rattle.cs_tx_types.specs.declared.checkpoint.Checkpoint.{Checkpoint}
 use Rattle.cs_tx_value.specs.Object.{DigestFits}
+use Rattle.cs_base.specs.declared.version.Version.TheVariants.{One}
 use Rattle.cs_tx_types.specs.Log.{leaf_encoding}
 use Rattle.cs_check_rules.specs.Chain.{Log, with_slot, head_of, chain_head, made_last, kept_slots}
 use Rattle.cs_check_rules.specs.Root.{root_under}
@@ -133,7 +134,7 @@ module _ {M : Type 0} (site : Site M) (me : NodeId) (n : ℕ) where
         (subst P (plain-onto voting entering Base ∙ ap (λ (z : List (Mark M)). plain voting ++ z) (sym (plain-onto entering did t)) ∙ sym (plain-onto voting (entering ++ did) t)) taken)
 
   module _ (t : List (Mark M)) (slot place : ℕ) where
-    abbrev Followed : NodeId → Entry → Effect → Bool → Option (Tx.Vote × Bool) → List (Mark M)
+    abbrev Followed : NodeId → Action → Effect → Bool → Option (Tx.Vote × Bool) → List (Mark M)
     Followed who entry effect pooled told = plain (own_signs who (session_in entry) told ++ (vote_signs site.setup who (session_in entry) told ++ (entered_signs (session_in entry) pooled told ++ Did slot place entry effect ∷ []))) ++ t
 
     prepared : (x : Session) (effect : Effect) (pooled asks : Bool) → IsAfter site me n (Plain (Did slot place (Prepare x) effect) ∷ t) → IsAfter site me n (Followed (view_at site me t).me (Prepare x) effect pooled (told_by effect asks))
@@ -143,7 +144,7 @@ module _ {M : Type 0} (site : Site M) (me : NodeId) (n : ℕ) where
     prepared x Skipped pooled asks l = l
     prepared x Void pooled asks l = l
 
-    ran-after : (entry : Entry) → let v = view_at site me t in
+    ran-after : (entry : Action) → let v = view_at site me t in
         IsAfter site me n (Plain (Did slot place entry (executed site.setup v.me.shard v.bench entry).effect) ∷ t)
         → IsAfter site me n (plain (ran_signs site.setup v.me v.bench slot place entry (session_in entry) (executed site.setup v.me.shard v.bench entry)) ++ t)
     ran-after (Prepare x) l = prepared x _ _ _ l
@@ -184,7 +185,7 @@ module _ {M : Type 0} (site : Site M) (me : NodeId) (slot : ℕ) where
       let v = view_at site me t in
       let ran = executed site.setup v.me.shard v.bench action in
       record {
-        leaf = leaf_encoding (next_leaf v.bench action ran.effect);
+        leaf = leaf_encoding One (next_leaf v.bench action ran.effect);
         root = root_under ran.bench.keys ran.bench.table;
         before = v.bench.log;
         fits = root_hashed _;
@@ -246,7 +247,7 @@ module _ {M : Type 0} (site : Site M) (me : NodeId) (slot : ℕ) where
       (said-sends site me u names (message.Head c) (λ to i. inr (own c refl).0)) ((own c refl).1, tt))
 
   -- the checkpoint that a slot made is told
-  pub closed-level : (entry : Entry) (t : List (Mark M)) → IsLevel site me (Acted 0 (actions_of entry) t)
+  pub closed-level : (entry : Action) (t : List (Mark M)) → IsLevel site me (Acted 0 (actions_of entry) t)
       → IsLevel site me (plain (execution_signs site.setup (view_at site me t).me (view_at site me t).bench slot entry) ++ t)
   closed-level entry t l =
       let v = view_at site me t in
@@ -318,7 +319,7 @@ module _ {M : Type 0} (site : Site M) (me : NodeId) where
       (ap (λ (z : List (Mark M)). cut ++ z) onto ∙ sym (append_assoc cut marks t))
       (cut-level slot (plain told ++ u) enough moved_here)
 
-  due-level : (t : List (Mark M)) (o : Option Entry) → IsLevel site me t → site.machine.may_propose (view_at site me t).member ≡ Free → due site.setup (view_at site me t).bench.pool ≡ o → TurnLevel t (due_marks site (view_at site me t) o)
+  due-level : (t : List (Mark M)) (o : Option Action) → IsLevel site me t → site.machine.may_propose (view_at site me t).member ≡ Free → due site.setup (view_at site me t).bench.pool ≡ o → TurnLevel t (due_marks site (view_at site me t) o)
   due-level t None l e d = tt
   due-level t (Some entry) l e d =
       let p = site.proposed_of entry in

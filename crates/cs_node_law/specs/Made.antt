@@ -7,10 +7,11 @@ use Rattle.cs_tx_value.specs.Object.{DigestFits}
 use Rattle.cs_tx_types.specs.declared.checkpoint.Checkpoint.{Checkpoint}
 use Rattle.cs_tx_types.specs.declared.session.Session.{Session}
 use Rattle.cs_tx_types.specs.declared.vote.Vote.{Vote as Said}
-use Rattle.cs_tx_types.specs.declared.entry.Entry.{Entry}
-use Rattle.cs_tx_types.specs.declared.entry.Entry.TheVariants.{Prepare}
+use Rattle.cs_tx_types.specs.declared.action.Action.{Action}
+use Rattle.cs_tx_types.specs.declared.action.Action.TheVariants.{Prepare}
 use Rattle.cs_wire_message.specs.declared.message.Message.{Message}
 use Rattle.cs_wire_message.specs.declared.message.Message.TheVariants as message
+use Rattle.cs_base.specs.declared.version.Version.TheVariants.{One}
 use Rattle.cs_wire_message.specs.Message.{MessageFits}
 use Rattle.cs_check_rules.specs.Chain.{chain_head, cut_slot}
 use Rattle.cs_order.specs.declared.proposed.Proposed.{Proposed}
@@ -22,7 +23,7 @@ use Rattle.cs_ledger.specs.Ledger.{Bytes}
 use Rattle.cs_ledger.specs.Table.{Vote, Commit, Effect, Voted, exec}
 use Rattle.cs_ledger.specs.ShardWorld.{is_vote}
 use Rattle.cs_node_rules.specs.declared.cause.Cause.{Cause}
-use Rattle.cs_node_state.specs.Setup.{Action, actions_of, Setup, digest_of, is_concerned_shard, is_fit, is_session_approved, entry_of, prepares}
+use Rattle.cs_node_state.specs.Setup.{actions_of, Setup, digest_of, is_concerned_shard, is_fit, is_session_approved, entry_of, prepares}
 use Rattle.cs_node_state.specs.Admission.{due}
 use Rattle.cs_node_state.specs.Bench.{is_locked, noted, decision_on}
 use Rattle.cs_node_rules.specs.Signs.{Sign, Dropped, Took, Entered, Viewed, Did, Headed, Kept, Sent}
@@ -120,7 +121,7 @@ pub record IsEchoable {M : Type 0} (site : Site M) (v : View M) : Type 0 where
 
 -- what is proposed is the due entry
 pub record IsDue {M : Type 0} (site : Site M) (v : View M) (proposed : Proposed) : Type 0 where
-  pub entry : Entry
+  pub entry : Action
   pub is : proposed ≡ site.proposed_of entry
   pub due : due site.setup v.bench.pool ≡ Some entry
 
@@ -234,12 +235,12 @@ pub record IsLevel {M : Type 0} (site : Site M) (me : NodeId) (t : List (Mark M)
 -- the order's messages that are read are proper
 abbrev pub ReadsProper : {M : Type 0} → Site M → Type 0
 ReadsProper {M} site =
-    (said : Message) (m : M) → MessageFits said → site.carrier.read said ≡ Some m → site.machine.proper m ≡ true
+    (said : Message) (m : M) → MessageFits One said → site.carrier.read said ≡ Some m → site.machine.proper m ≡ true
 
 -- what the input says to the node is within the limits of messages
 abbrev pub InputFits : {M : Type 0} → Site M → NodeId → Input → Type 0
 InputFits {M} site me (Datagram bytes) =
-    (sender : NodeId) (said : Message) → site.net.opened me bytes ≡ Ok (sender, said) → MessageFits said
+    (sender : NodeId) (said : Message) → site.net.opened me bytes ≡ Ok (sender, said) → MessageFits One said
 InputFits {M} site me Tick = Unit {0}
 
 -- The rules of a node add only marks that are made.

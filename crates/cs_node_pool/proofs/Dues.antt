@@ -5,8 +5,8 @@ use Rattle.cs_tx_value.specs.declared.object.Object.{Object}
 use Rattle.cs_tx_types.specs.declared.transaction.Tx.{Tx}
 use Rattle.cs_tx_types.specs.declared.session.Session.{Session}
 use Rattle.cs_tx_types.specs.declared.vote.Vote.{Vote}
-use Rattle.cs_tx_types.specs.declared.entry.Entry.{Entry}
-use Rattle.cs_tx_types.specs.declared.entry.Entry.TheVariants.{Prepare}
+use Rattle.cs_tx_types.specs.declared.action.Action.{Action}
+use Rattle.cs_tx_types.specs.declared.action.Action.TheVariants.{Prepare}
 use Rattle.cs_node_state.specs.Setup.{Setup, concerned}
 use Rattle.cs_tx_types.specs.Session.{session_in}
 use Rattle.cs_node_state.specs.Admission.{due_vote, decide_due, first_decided, first_waiting}
@@ -22,7 +22,7 @@ no-keys (k ∷ ks) h = let q : false ≡ true = h.1 (omega arith) in cc
 
 -- ---- those that wait
 
-abbrev pub prepare_of : Option Seat → Option Entry
+abbrev pub prepare_of : Option Seat → Option Action
 prepare_of None = None
 prepare_of (Some seat) = Some (Prepare seat.pooled.session)
 
@@ -46,7 +46,7 @@ waiting-session (Some seat) = refl
 
 -- ---- those that are due
 
-abbrev pub decide_of : Option Seat → Option Entry
+abbrev pub decide_of : Option Seat → Option Action
 decide_of None = None
 decide_of (Some seat) = decide_due seat.pooled.session None seat.due
 
@@ -72,7 +72,7 @@ module _ (config : Config) (genesis : List Object) (approves : Tx → Bool) wher
   same-vote seat right =
       ap (λ shards. due_vote config.f shards seat.pooled) (concerned-session config genesis approves seat.pooled.session ∙ sym right.shards) ∙ sym right.due
 
-  due-here : (seat : Seat) (pool : Option Entry) (rest : Option Seat) (vote : Option Vote) → seat.due ≡ vote → pool ≡ decide_of rest
+  due-here : (seat : Seat) (pool : Option Action) (rest : Option Seat) (vote : Option Vote) → seat.due ≡ vote → pool ≡ decide_of rest
       → decide_due seat.pooled.session pool vote ≡ decide_of (cond (is_some vote) (Some seat) rest)
   due-here seat pool rest (Some vote) is later = sym (ap (decide_due seat.pooled.session None) is)
   due-here seat pool rest None is later = later

@@ -21,7 +21,7 @@ use crate::same::same_session;
 use crate::seat::{Seat, is_due, known_as, lock, take_vote, waits};
 use cs_base::{Config, Memory};
 use cs_node_state::{Ballot, Pooled};
-use cs_tx::{Digest, Encoded, Entry, Session};
+use cs_tx::{Action, Digest, Encoded, Session};
 use indexmap::IndexMap;
 use std::alloc::Global;
 use std::collections::BTreeSet;
@@ -335,7 +335,7 @@ impl Kept {
         Ok(sessions)
     }
 
-    fn decide_due(&self, alloc: Global) -> Result<Option<Entry>, Memory>
+    fn decide_due(&self, alloc: Global) -> Result<Option<Action>, Memory>
         requires placed { Placed self.now }
         ensures entry { (config : Config) → AllRight config self.now.seats.entries →
             AtEverySetup config (λ setup.
@@ -350,10 +350,10 @@ impl Kept {
             return Ok(None);
         };
         let session = seat.pooled.session.copy(alloc)?;
-        Ok(Some(Entry::Decide(vote, session)))
+        Ok(Some(Action::Decide(vote, session)))
     }
 
-    fn prepare_due(&self, alloc: Global) -> Result<Option<Entry>, Memory>
+    fn prepare_due(&self, alloc: Global) -> Result<Option<Action>, Memory>
         requires { Placed self.now }
         ensures entry { IfOk result (λ entry. entry ≡ first_waiting (pool_in self.now)) }
         ensures fits { PoolFits (pool_in self.now) → IfOk result DueFits }
@@ -362,12 +362,12 @@ impl Kept {
             return Ok(None);
         };
         let session = seat.pooled.session.copy(alloc)?;
-        Ok(Some(Entry::Prepare(session)))
+        Ok(Some(Action::Prepare(session)))
     }
 
     /// The entry that is due: the first decision of a locked session, in the order of the pool,
     /// or else a vote on the first session that waits.
-    pub fn due(&self, alloc: Global, config: &Config) -> Result<Option<Entry>, Memory>
+    pub fn due(&self, alloc: Global, config: &Config) -> Result<Option<Action>, Memory>
         requires { SoundSeats config.now self.now }
         ensures entry { AtEverySetup config.now (λ setup.
             IfOk result (λ entry. entry ≡ due setup (pool_in self.now))) }

@@ -15,7 +15,7 @@ use crate::answers::Counted;
 use crate::kept::Kept;
 use cs_base::{Config, Memory, Whole};
 use cs_node_state::{Ballot, Pooled};
-use cs_tx::{Digest, Entry, Session};
+use cs_tx::{Action, Digest, Session};
 use std::alloc::Global;
 use std::marker::Model;
 
@@ -180,7 +180,7 @@ impl Pool {
 
     /// The entry that is due: the first decision of a locked session, in the order of the pool,
     /// or else a vote on the first session that waits.
-    pub fn due(&self, alloc: Global) -> Result<Option<Entry>, Memory>
+    pub fn due(&self, alloc: Global) -> Result<Option<Action>, Memory>
         ensures entry { AtEverySetup self.now.config (λ setup.
             IfOk result (λ entry. entry ≡ due setup self.now.sessions)) }
         ensures fits { IfOk result DueFits }

@@ -63,7 +63,7 @@ module _ (setup : Setup) (me : NodeId) (b : Bench) (sender : NodeId) where
   heard (message.Ask asked) =
       heard-guarded (is_client sender) _ _
       (heard-guarded (shard_of_key setup.shards (key_asked b.table me.shard asked) == me.shard) _ _ (refl, tt))
-  heard (message.AskProof slot) = heard-guarded (is_client sender) _ _ (heard-proof (proof_of b.log slot))
+  heard (message.AskProof slot place) = heard-guarded (is_client sender) _ _ (heard-proof (proof_of b.log slot))
   heard (message.Voted vote asks x) =
       heard-guarded (not (is_client sender)) _ _
       (heard-guarded (is_fit setup me.shard x) _ _

@@ -3,8 +3,8 @@ use Rattle.std.specs.Prelude.{◌≡◌, ℕ, true, List, ◌∷◌, ◌++◌, S
 use Rattle.cs_base.specs.declared.node_id.NodeId.{NodeId}
 use Rattle.cs_tx_types.specs.declared.session.Session.{Session}
 use Rattle.cs_tx_types.specs.declared.vote.Vote.TheVariants.{Commit}
-use Rattle.cs_tx_types.specs.declared.entry.Entry.{Entry}
-use Rattle.cs_tx_types.specs.declared.entry.Entry.TheVariants.{Prepare, Decide}
+use Rattle.cs_tx_types.specs.declared.action.Action.{Action}
+use Rattle.cs_tx_types.specs.declared.action.Action.TheVariants.{Prepare, Decide}
 use Rattle.cs_wire_message.specs.declared.message.Message.TheVariants as message
 use Rattle.cs_base.specs.Lists.{IsIn}
 use Rattle.cs_ledger.specs.Session.{Key, Piece, anchor, used_up, read_only, objects_in}
@@ -39,7 +39,7 @@ abbrev pub bench_at : Setup → ℕ → List Sign → Bench
 bench_at setup shard signs = bench_after setup shard signs (start_bench setup shard)
 
 -- an execution, with the signs before it; signs are newest first
-pub record Executed (signs : List Sign) (entry : Entry) : Type 0 where
+pub record Executed (signs : List Sign) (entry : Action) : Type 0 where
   pub slot : ℕ
   pub place : ℕ
   pub effect : Shard.Effect

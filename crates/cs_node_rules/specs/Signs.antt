@@ -8,7 +8,7 @@ use Rattle.cs_base.specs.NodeId.{is_client}
 use Rattle.cs_tx_types.specs.declared.session.Session.{Session}
 use Rattle.cs_tx_types.specs.declared.vote.Vote.{Vote}
 use Rattle.cs_tx_types.specs.declared.vote.Vote.TheVariants.{Commit}
-use Rattle.cs_tx_types.specs.declared.entry.Entry.{Entry}
+use Rattle.cs_tx_types.specs.declared.action.Action.{Action}
 use Rattle.cs_tx_types.specs.declared.checkpoint.Checkpoint.{Checkpoint}
 use Rattle.cs_tx_types.specs.declared.proof.Proof.{Proof}
 use Rattle.cs_check_rules.specs.Chain.{head_of, made_last}
@@ -19,7 +19,7 @@ use Rattle.cs_ledger.specs.Table.{Effect}
 use Rattle.cs_node_rules.specs.declared.cause.Cause.{Cause}
 use Rattle.cs_node_rules.specs.declared.cause.Cause.TheVariants.{Mine, Role, Malformed, Repeat, Unasked, Denied, Full, NoProof}
 use Rattle.cs_node_state.specs.declared.pooled.Pooled.{Pooled}
-use Rattle.cs_node_state.specs.Setup.{Action, actions_of, Setup, digest_of, is_concerned_shard, concerned, is_fit, is_session_approved}
+use Rattle.cs_node_state.specs.Setup.{actions_of, Setup, digest_of, is_concerned_shard, concerned, is_fit, is_session_approved}
 use Rattle.cs_tx_types.specs.Session.{session_in}
 use Rattle.cs_node_state.specs.Evidence.{has_voted}
 use Rattle.cs_node_rules.specs.Members.{is_other_member, others}
@@ -156,7 +156,7 @@ actions_signs setup me b slot place (action ∷ more) =
     actions_signs setup me (bench_after setup me.shard signs b) slot (suc place) more ++ signs
 
 -- the entry of a slot is executed, and after every 16th slot a checkpoint is made
-abbrev pub execution_signs : Setup → NodeId → Bench → ℕ → Entry → List Sign
+abbrev pub execution_signs : Setup → NodeId → Bench → ℕ → Action → List Sign
 execution_signs setup me b slot entry =
     let signs = actions_signs setup me b slot 0 (actions_of entry) in
     headed_signs setup me (made_last (bench_after setup me.shard signs b).log) ++ signs
@@ -183,7 +183,7 @@ head_signs setup me b sender checkpoint =
 abbrev pub said_signs : Setup → NodeId → Bench → NodeId → Message → List Sign
 said_signs setup me b sender (message.Submit x) = submit_signs setup me.shard b sender x
 said_signs setup me b sender (message.Ask asked) = ask_signs setup me.shard b sender asked
-said_signs setup me b sender (message.AskProof slot) = ask_proof_signs b sender slot
+said_signs setup me b sender (message.AskProof slot place) = ask_proof_signs b sender slot
 said_signs setup me b sender (message.Voted vote asks x) = voted_signs setup me.shard b sender vote asks x
 said_signs setup me b sender (message.Head checkpoint) = head_signs setup me b sender checkpoint
 said_signs setup me b sender said = Dropped Role ∷ []

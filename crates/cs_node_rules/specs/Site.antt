@@ -1,7 +1,7 @@
 -- Marks, nodes, and the site on which the rules of all nodes rest.
 use Rattle.std.specs.Prelude.{List, [], ◌∷◌, Option}
 use Rattle.cs_base.specs.declared.node_id.NodeId.{NodeId}
-use Rattle.cs_tx_types.specs.declared.entry.Entry.{Entry}
+use Rattle.cs_tx_types.specs.declared.action.Action.{Action}
 use Rattle.cs_wire_message.specs.declared.message.Message.{Message}
 use Rattle.cs_order.specs.declared.proposed.Proposed.{Proposed}
 use Rattle.cs_order.specs.Deeds.{Deed, Member, Machine, did}
@@ -33,8 +33,8 @@ pub record Site (M : Type 0) : Type 0 where
   pub net : Net
   pub machine : Machine M
   pub carrier : Carrier M
-  pub proposed_of : Entry → Proposed
-  pub entry_in : Proposed → Entry  -- of bytes that are no entry a fixed one, which is Void
+  pub proposed_of : Action → Proposed
+  pub entry_in : Proposed → Action  -- of bytes that are no entry a fixed one, which is Void
 
 -- a node: what its marks come to
 pub record View (M : Type 0) : Type 0 where

@@ -5,8 +5,8 @@ use Rattle.std.specs.List.{list_all, list_any}
 use Rattle.cs_base.specs.declared.node_id.NodeId.{NodeId}
 use Rattle.cs_wire.specs.Opened.{Opened}
 use Rattle.cs_tx_types.specs.declared.session.Session.{Session}
-use Rattle.cs_tx_types.specs.declared.entry.Entry.{Entry}
-use Rattle.cs_tx_types.specs.declared.entry.Entry.TheVariants.{Prepare, Decide}
+use Rattle.cs_tx_types.specs.declared.action.Action.{Action}
+use Rattle.cs_tx_types.specs.declared.action.Action.TheVariants.{Prepare, Decide}
 use Rattle.cs_ledger.specs.Ledger.{Bytes, Transaction}
 use Rattle.cs_ledger.specs.Table.{Vote, Commit, Abort, Effect, Voted, Accepted, Aborted}
 use Rattle.cs_ledger.specs.ShardWorld.{Step, is_vote, is_listed}
@@ -83,7 +83,7 @@ pub record Execution : Type 0 where
   pub shard : ℕ
   pub slot : ℕ
   pub place : ℕ
-  pub entry : Entry
+  pub entry : Action
   pub effect : Effect
 
 -- the executions as steps of the shards together
@@ -144,7 +144,7 @@ abbrev pub is_voted : Effect → Bool
 is_voted (Voted vote) = true
 is_voted effect = false
 
-abbrev pub told_after : Setup → List Execution → Entry → Effect → List Transaction → List Transaction
+abbrev pub told_after : Setup → List Execution → Action → Effect → List Transaction → List Transaction
 told_after setup firsts (Prepare x) effect earlier =
     if is_voted effect && (all_recorded setup firsts x && not (is_listed (setup.session_of x).transaction earlier))
     then earlier ++ (setup.session_of x).transaction ∷ []
@@ -161,11 +161,11 @@ abbrev pub recorded_history : {M : Type 0} → Site M → List (Happening M) →
 recorded_history {M} site world = told_transactions site.setup (firsts_of world)
 
 -- an execution decides accept on a session of that digest, or abort
-abbrev pub accepts_by : Setup → Bytes → Entry → Effect → Bool
+abbrev pub accepts_by : Setup → Bytes → Action → Effect → Bool
 accepts_by setup d (Decide vote x) Accepted = bytes_eq d (digest_of setup x)
 accepts_by setup d entry effect = false
 
-abbrev pub aborts_by : Setup → Bytes → Entry → Effect → Bool
+abbrev pub aborts_by : Setup → Bytes → Action → Effect → Bool
 aborts_by setup d (Prepare x) (Voted Abort) = bytes_eq d (digest_of setup x)
 aborts_by setup d (Decide vote x) Aborted = bytes_eq d (digest_of setup x)
 aborts_by setup d entry effect = false

@@ -5,7 +5,7 @@
 mod starting;
 
 ghost use Rattle.std.specs.Prelude.{◌≡◌, IfOk, string_bytes};
-ghost use Rattle.cs_tx_types.specs.Session.{EntryFits, session_in};
+ghost use Rattle.cs_tx_types.specs.Session.{ActionFits, session_in};
 ghost use Rattle.cs_tx.specs.Digest.{digest_of_session};
 ghost use Rattle.cs_node_rules.specs.Lines.{slot_line, effect_text, head_line};
 ghost use Rattle.cs_table.specs.Effects.{effect_of};
@@ -14,13 +14,13 @@ ghost use Rattle.cs_ledger.specs.Table.{Voted};
 
 use cs_base::{Memory, NodeId, print_bytes};
 use cs_node::Effect;
-use cs_tx::{Digest, Entry, Vote, session_digest};
+use cs_tx::{Action, Digest, Vote, session_digest};
 pub use starting::start;
 use std::alloc::Global;
 
 /// The digest of the session of an entry.
-pub fn digest_in(alloc: Global, entry: &Entry) -> Result<Digest, Memory>
-    requires { EntryFits entry.now }
+pub fn digest_in(alloc: Global, entry: &Action) -> Result<Digest, Memory>
+    requires { ActionFits entry.now }
     ensures { IfOk result (λ digest. digest ≡ digest_of_session (session_in entry.now)) }
 {
     session_digest(alloc, entry.session())

@@ -1,6 +1,7 @@
 //! The start of a node.
 ghost use Rattle.std.specs.Prelude.{◌≡◌, IfOk, List, true};
 ghost use Rattle.cs_base.specs.NodeId.{is_node};
+ghost use Rattle.cs_base.specs.declared.version.Version.TheVariants.{One};
 ghost use Rattle.cs_tx_value.specs.declared.object.Object.{Object as AnyObject};
 ghost use Rattle.cs_order_rules.specs.SlotMachine.{slot_machine};
 ghost use Rattle.cs_node_rules.specs.Net.{Net};
@@ -21,7 +22,8 @@ use cs_tx::{Judge, Object};
 use cs_wire::Keys;
 use std::alloc::Global;
 
-/// The node that holds the keys, before its first input, in whatever net they speak.
+/// The node that holds the keys, which are of version 1, before its first input, in whatever net they
+/// speak.
 pub fn start<J: Judge + Drop>(
     alloc: Global,
     config: Config,
@@ -29,6 +31,7 @@ pub fn start<J: Judge + Drop>(
     judge: J,
     genesis: &[(Key, Object)],
 ) -> Result<Core<SlotOrder, J>, Memory>
+    requires first { keys.version ≡ One }
     requires node { is_node config keys.me ≡ true }
     requires genesis { (objects : List AnyObject) × IsGenesis objects genesis.now }
     ensures { (objects : List AnyObject) → genesis.now ≡ keyed_from 0 objects →

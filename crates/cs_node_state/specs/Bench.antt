@@ -4,10 +4,11 @@ use Rattle.std.specs.Prelude.{ℕ, Bool, true, false, if◌then◌else◌, List,
 use Rattle.cs_base.specs.declared.node_id.NodeId.{NodeId}
 use Rattle.cs_tx_types.specs.declared.session.Session.{Session}
 use Rattle.cs_tx_types.specs.declared.vote.Vote.{Vote}
-use Rattle.cs_tx_types.specs.declared.entry.Entry.{Entry}
+use Rattle.cs_tx_types.specs.declared.action.Action.{Action}
 use Rattle.cs_tx_types.specs.declared.leaf.Leaf.{Leaf}
 use Rattle.cs_tx_types.specs.declared.effect.Effect.{Effect as Result}
 use Rattle.cs_tx_types.specs.declared.effect.Effect.TheVariants as result
+use Rattle.cs_base.specs.declared.version.Version.TheVariants.{One}
 use Rattle.cs_tx_types.specs.Log.{leaf_encoding}
 use Rattle.cs_check_rules.specs.Chain.{Log, empty_log, with_slot}
 use Rattle.cs_check_rules.specs.Keys.{start_keys, keys_after}
@@ -94,7 +95,7 @@ ran_of setup shard b keys x outcome = record {
   };
 }
 
-abbrev pub executed : Setup → ℕ → Bench → Entry → Ran
+abbrev pub executed : Setup → ℕ → Bench → Action → Ran
 executed setup shard b entry =
     ran_of setup shard b (keys_after setup.rules shard b.table (entry_of setup entry) b.keys) (session_in entry)
     (exec setup.rules shard b.table (entry_of setup entry))
@@ -109,15 +110,16 @@ effect_from Skipped = result.Skipped
 effect_from Void = result.Void
 
 -- what was executed in the next slot, and what that came to
-abbrev pub next_leaf : Bench → Entry → Effect → Leaf
-next_leaf b entry effect = record { slot = length b.log.leaves; entry = entry; result = effect_from effect }
+abbrev pub next_leaf : Bench → Action → Effect → Leaf
+next_leaf b entry effect =
+    record { slot = length b.log.leaves; place = 0; action = entry; result = effect_from effect }
 
 -- it stands in the log
 abbrev pub with_leaf : Leaf → Bench → Bench
-with_leaf leaf b = record b { log = with_slot (leaf_encoding leaf) (root_under b.keys b.table) b.log }
+with_leaf leaf b = record b { log = with_slot (leaf_encoding One leaf) (root_under b.keys b.table) b.log }
 
 -- what is kept after the entry of a slot was executed
-abbrev pub slot_executed : Setup → ℕ → Bench → Entry → Bench
+abbrev pub slot_executed : Setup → ℕ → Bench → Action → Bench
 slot_executed setup shard b entry =
     let ran = executed setup shard b entry in
     with_leaf (next_leaf b entry ran.effect) ran.bench
@@ -144,7 +146,7 @@ own_pool me d (Some told) pool =
     else pool
 
 -- what an execution leaves, with the node's own vote
-abbrev pub bench_executed : Setup → NodeId → Bench → Entry → Bench
+abbrev pub bench_executed : Setup → NodeId → Bench → Action → Bench
 bench_executed setup me b entry =
     let ran = executed setup me.shard b entry in
     record ran.bench {

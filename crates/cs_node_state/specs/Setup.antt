@@ -3,19 +3,16 @@ use Rattle.std.specs.Prelude.{ℕ, zero, suc, Bool, ◌&&◌, if◌then◌else�
 use Rattle.cs_tx_types.specs.declared.session.Session.{Session}
 use Rattle.cs_tx_types.specs.declared.vote.Vote.{Vote}
 use Rattle.cs_tx_types.specs.declared.vote.Vote.TheVariants.{Commit, Abort}
-use Rattle.cs_tx_types.specs.declared.entry.Entry.{Entry}
-use Rattle.cs_tx_types.specs.declared.entry.Entry.TheVariants.{Prepare, Decide}
+use Rattle.cs_tx_types.specs.declared.action.Action.{Action}
+use Rattle.cs_tx_types.specs.declared.action.Action.TheVariants.{Prepare, Decide}
 use Rattle.cs_ledger.specs.Ledger.{Bytes}
 use Rattle.cs_ledger.specs.Session as Seen
 use Rattle.cs_ledger.specs.Table as Shard
 use Rattle.cs_tx.specs.Votes.{vote_of}
 
--- An action is executed as one: a Prepare of a session, or a Decide of one. It is written as an entry of it alone.
-abbrev pub Action : Type 0
-Action = Entry
-
--- what is executed of an entry that was chosen, one action after the other
-unfoldable pub actions_of : Entry → List Action
+-- In version 1 the members of a shard agree on an action, which is written as the entry of it alone. What is executed of
+-- it is a list, one action after the other.
+unfoldable pub actions_of : Action → List Action
 actions_of entry = entry ∷ []
 
 pub record Setup : Type 0 where
@@ -28,7 +25,7 @@ abbrev pub digest_of : Setup → Session → Bytes
 digest_of setup x = (setup.session_of x).digest
 
 -- the entry is a Prepare of the session of this digest
-abbrev pub prepares : Setup → Bytes → Entry → Bool
+abbrev pub prepares : Setup → Bytes → Action → Bool
 prepares setup d (Prepare x) = bytes_eq d (digest_of setup x)
 prepares setup d (Decide vote x) = false
 
@@ -55,6 +52,6 @@ abbrev pub vote_from : Shard.Vote → Vote
 vote_from Shard.Commit = Commit
 vote_from Shard.Abort = Abort
 
-abbrev pub entry_of : Setup → Entry → Shard.Entry
+abbrev pub entry_of : Setup → Action → Shard.Entry
 entry_of setup (Prepare x) = Shard.Prepare (setup.session_of x)
 entry_of setup (Decide vote x) = Shard.Decide (setup.session_of x) (vote_of vote)

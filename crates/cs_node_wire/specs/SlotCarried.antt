@@ -1,6 +1,7 @@
 -- How the messages of an order among 3f+1 members go between nodes.
-use Rattle.std.specs.Prelude.{ℕ, if◌then◌else◌, Option, Some, None}
-use Rattle.cs_tx_types.specs.declared.entry.Entry.{Entry}
+use Rattle.std.specs.Prelude.{ℕ, if◌then◌else◌, List, [], ◌∷◌, Option, Some, None}
+use Rattle.cs_tx_types.specs.declared.action.Action.{Action}
+use Rattle.cs_tx_types.specs.Entry.{entry_alone}
 use Rattle.cs_wire_message.specs.declared.change.Change.{Change}
 use Rattle.cs_wire_message.specs.declared.message.Message.{Message}
 use Rattle.cs_wire_message.specs.declared.message.Message.TheVariants as message
@@ -16,13 +17,13 @@ use Rattle.cs_node_wire.specs.Proposals.{entry_spelled}
 abbrev pub blank : Message
 blank = message.Want 0
 
-abbrev pub proposal_written : ℕ → ℕ → Option Entry → Message
+abbrev pub proposal_written : ℕ → ℕ → Option Action → Message
 proposal_written slot view None = blank
-proposal_written slot view (Some entry) = message.Propose slot view entry
+proposal_written slot view (Some entry) = message.Propose slot view (entry_alone entry)
 
-abbrev pub done_written : ℕ → Option Entry → Message
+abbrev pub done_written : ℕ → Option Action → Message
 done_written slot None = blank
-done_written slot (Some entry) = message.Done slot entry
+done_written slot (Some entry) = message.Done slot (entry_alone entry)
 
 abbrev pub change_written : OrderChange → Change
 change_written change = record { prepared = change.prepared; echoed = change.echoed }
@@ -41,12 +42,27 @@ slot_written m = if proper m then kind_written m else blank
 abbrev pub change_read : Change → OrderChange
 change_read change = record { prepared = change.prepared; echoed = change.echoed }
 
+-- the action of an entry of one
+abbrev pub alone : List Action → Option Action
+alone [] = None
+alone (action ∷ []) = Some action
+alone (action ∷ other ∷ more) = None
+
+abbrev pub proposal_read : ℕ → ℕ → Option Action → Option OrderMessage
+proposal_read slot view None = None
+proposal_read slot view (Some action) = Some (order.Propose slot view (proposed_of action))
+
+abbrev pub done_read : ℕ → Option Action → Option OrderMessage
+done_read slot None = None
+done_read slot (Some action) = Some (order.Done slot (proposed_of action))
+
+-- in version 1 an entry of more than one action says nothing
 abbrev pub slot_read : Message → Option OrderMessage
-slot_read (message.Propose slot view entry) = Some (order.Propose slot view (proposed_of entry))
+slot_read (message.Propose slot view entry) = proposal_read slot view (alone entry.actions)
 slot_read (message.Echo slot view digest) = Some (order.Echo slot view digest)
 slot_read (message.Confirm slot view digest) = Some (order.Confirm slot view digest)
 slot_read (message.Change slot view change) = Some (order.Change slot view (change_read change))
-slot_read (message.Done slot entry) = Some (order.Done slot (proposed_of entry))
+slot_read (message.Done slot entry) = done_read slot (alone entry.actions)
 slot_read said = None
 
 abbrev pub slot_carrier : Carrier OrderMessage

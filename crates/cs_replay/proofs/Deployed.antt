@@ -24,7 +24,7 @@ use Rattle.cs_node_state.specs.Setup as Setup
 use Rattle.cs_node_rules.specs.Net.{net_of}
 use Rattle.cs_node_rules.specs.Site.{Site, View, start_view}
 use Rattle.cs_node_state.specs.Deployed.{rules_of, setup_of}
-use Rattle.cs_node.specs.declared.nodes.Core.{Core}
+use Rattle.cs_node.specs.declared.node_core.Core.{Core}
 use Rattle.cs_node.specs.Cores.{CoreStandsFor}
 use Rattle.cs_replay_rules.specs.PlayedWorlds as Given
 use Rattle.cs_sched.specs.Naming.{is_name, is_liar}
@@ -241,6 +241,7 @@ module _ (schedule : Schedule) (playable : IsPlayable schedule) where
       honest = λ name. (λ is. let found = honest-name name is in has-place name found.node found.honest, λ has. honest-place name has);
       shards = λ i within. subst (λ n. (name_at_place (honest_nodes schedule) i).shard < n) (sym (ap (λ (c : Config). c.shards) same)) (honest-shard (name_at_place (honest_nodes schedule) i) (i, within, refl));
       liars = schedule.liars;
+      first = ap (λ (c : Config). c.version) voiced ∙ playable.version;
       speaks = ap (λ (c : Config). net_of c schedule.master schedule.liars) (sym voiced) ∙ ap (λ (m : Bytes). net_of voicing.config m schedule.liars) (sym master);
     }
 

@@ -23,7 +23,7 @@ zeros = 0 ∷ 0 ∷ 0 ∷ 0 ∷ 0 ∷ 0 ∷ 0 ∷ 0 ∷ []
 -- node 0.3 lies
 abbrev lying_member : Schedule
 lying_member = record {
-  config = record { shards = 1; f = 1; dummies = 4; some_shard = omega arith; few_shards = omega arith; few_liars = omega arith; few_dummies = omega arith };
+  config = record { shards = 1; f = 1; dummies = 4; version = 1; some_shard = omega arith; few_shards = omega arith; few_liars = omega arith; few_dummies = omega arith; some_version = omega arith; few_versions = omega arith };
   master = zeros;
   liars = node 3 ∷ [];
   contracts = [];
@@ -71,6 +71,7 @@ playable = record {
   some_shard = omega arith;
   few_shards = omega arith;
   few_faulty = omega arith;
+  version = refl;
   liars = more (λ name. is_node lying_member.config name ≡ true) (node 3) [] refl (none (λ name. is_node lying_member.config name ≡ true));
   few_liars = few;
   liars_differ = λ i j d below within. absurd (omega arith);

@@ -8,8 +8,8 @@ use Rattle.std.proofs.lemmas.Slice.Eq.{bytes_eq-Decides}
 use Rattle.cs_base.specs.declared.config.Config.{Config}
 use Rattle.cs_tx_types.specs.declared.session.Session.{Session}
 use Rattle.cs_tx_types.specs.declared.vote.Vote.{Vote}
-use Rattle.cs_tx_types.specs.declared.entry.Entry.{Entry}
-use Rattle.cs_tx_types.specs.declared.entry.Entry.TheVariants.{Prepare, Decide}
+use Rattle.cs_tx_types.specs.declared.action.Action.{Action}
+use Rattle.cs_tx_types.specs.declared.action.Action.TheVariants.{Prepare, Decide}
 use Rattle.cs_tx.specs.Digest.{digest_of_tx, digest_of_session}
 use Rattle.cs_tx.specs.Uses.{concerned_shards}
 use Rattle.cs_ledger.specs.Ledger.{Bytes, Transaction}
@@ -155,7 +155,7 @@ length-set : (xs : List ℕ) (i x : ℕ) → length (slice_set xs i x) ≡ lengt
 length-set xs i x = search rules
 
 module _ (setup : Setup) (kept : KeptHistory) (firsts : List Execution) (shard slot place : ℕ) (k : KeepsHistory setup firsts kept) (known : shard < kept.config.shards) where
-  abbrev first : Entry → Shard.Effect → Execution
+  abbrev first : Action → Shard.Effect → Execution
   first entry effect = record { shard = shard; slot = slot; place = place; entry = entry; effect = effect }
 
   within : shard < length kept.slots
@@ -171,7 +171,7 @@ module _ (setup : Setup) (kept : KeptHistory) (firsts : List Execution) (shard s
   each_place = length-set kept.places shard place ∙ k.each_place
 
   -- the newest execution of each shard
-  newest-next : (entry : Entry) (effect : Shard.Effect) (s : ℕ) (f : Option Execution → ℕ) (x : ℕ) → x ≡ f (Some (first entry effect))
+  newest-next : (entry : Action) (effect : Shard.Effect) (s : ℕ) (f : Option Execution → ℕ) (x : ℕ) → x ≡ f (Some (first entry effect))
       → cond (shard == s) x (f (newest_of s firsts)) ≡ f (newest_of s (first entry effect ∷ firsts))
   newest-next entry effect s f x is = by (shard == s)
     where
@@ -179,10 +179,10 @@ module _ (setup : Setup) (kept : KeptHistory) (firsts : List Execution) (shard s
       by true = is
       by false = refl
 
-  slots : (entry : Entry) (effect : Shard.Effect) (s : ℕ) → s < kept.config.shards → slice_index (entered_place kept shard slot place).slots s ≡ slot_after (newest_of s (first entry effect ∷ firsts))
+  slots : (entry : Action) (effect : Shard.Effect) (s : ℕ) → s < kept.config.shards → slice_index (entered_place kept shard slot place).slots s ≡ slot_after (newest_of s (first entry effect ∷ firsts))
   slots entry effect s below = set-next kept.slots shard s (slot + 1) _ within (k.slots s below) ∙ newest-next entry effect s slot_after (slot + 1) (omega arith)
 
-  places : (entry : Entry) (effect : Shard.Effect) (s : ℕ) → s < kept.config.shards → slice_index (entered_place kept shard slot place).places s ≡ place_in (newest_of s (first entry effect ∷ firsts))
+  places : (entry : Action) (effect : Shard.Effect) (s : ℕ) → s < kept.config.shards → slice_index (entered_place kept shard slot place).places s ≡ place_in (newest_of s (first entry effect ∷ firsts))
   places entry effect s below = set-next kept.places shard s place _ within_places (k.places s below) ∙ newest-next entry effect s place_in place refl
 
   decided : (vote : Vote) (x : Session) (effect : Shard.Effect) → KeepsHistory setup (first (Decide vote x) effect ∷ firsts) (entered_place kept shard slot place)
@@ -252,7 +252,7 @@ module _ (setup : Setup) (kept : KeptHistory) (firsts : List Execution) (shard s
     prepared-on : KeepsHistory setup (here ∷ firsts) (after_execution (entered_place kept shard slot place) shard (Prepare x) (Shard.Voted vote))
     prepared-on = subst (λ (after : KeptHistory). KeepsHistory setup (here ∷ firsts) (told_next after x)) (sym same-rest) voted-on
 
-  new-slot : (entry : Entry) (effect : Shard.Effect) → KeepsHistory setup (first entry effect ∷ firsts) (after_execution (entered_place kept shard slot place) shard entry effect)
+  new-slot : (entry : Action) (effect : Shard.Effect) → KeepsHistory setup (first entry effect ∷ firsts) (after_execution (entered_place kept shard slot place) shard entry effect)
   new-slot (Prepare x) (Shard.Voted vote) = prepared-on x vote
   new-slot (Prepare x) Shard.Accepted = unvoted x Shard.Accepted refl refl
   new-slot (Prepare x) Shard.Aborted = unvoted x Shard.Aborted refl refl
@@ -261,7 +261,7 @@ module _ (setup : Setup) (kept : KeptHistory) (firsts : List Execution) (shard s
   new-slot (Decide vote x) effect = decided vote x effect
 
   -- what is kept after an execution stands for the first executions after it
-  pub keeps-after : (entry : Entry) (effect : Shard.Effect) → KeepsHistory setup (with_first_execution shard (Did slot place entry effect) firsts) (kept_after kept shard slot place entry effect)
+  pub keeps-after : (entry : Action) (effect : Shard.Effect) → KeepsHistory setup (with_first_execution shard (Did slot place entry effect) firsts) (kept_after kept shard slot place entry effect)
   keeps-after entry effect =
       let newest = newest_of shard firsts in
       let is : is_new kept shard slot place ≡ is_after slot place newest =
@@ -278,7 +278,7 @@ keeps-aborted : (setup : Setup) (firsts : List Execution) (kept : KeptHistory) (
 keeps-aborted setup firsts kept aborted k = record { deploys = k.deploys; each = k.each; each_place = k.each_place; slots = k.slots; places = k.places; commits = k.commits; told = k.told }
 
 -- the outcome of a call that leaves what is kept after an execution, and notes aborts
-module _ (setup : Setup) (kept entered left : KeptHistory) (aborted : List Bytes) (firsts : List Execution) (shard slot place : ℕ) (entry : Entry) (effect : Shard.Effect) where
+module _ (setup : Setup) (kept entered left : KeptHistory) (aborted : List Bytes) (firsts : List Execution) (shard slot place : ℕ) (entry : Action) (effect : Shard.Effect) where
   abbrev after : List Execution
   after = with_first_execution shard (Did slot place entry effect) firsts
 

@@ -7,8 +7,9 @@ use Rattle.cs_base.specs.declared.node_id.NodeId.{NodeId}
 use Rattle.cs_tx_types.specs.declared.session.Session.{Session}
 use Rattle.cs_tx_types.specs.declared.vote.Vote.{Vote}
 use Rattle.cs_tx_types.specs.declared.vote.Vote.TheVariants.{Commit}
-use Rattle.cs_tx_types.specs.declared.entry.Entry.{Entry}
+use Rattle.cs_tx_types.specs.declared.action.Action.{Action}
 use Rattle.cs_tx_types.specs.declared.checkpoint.Checkpoint.{Checkpoint}
+use Rattle.cs_base.specs.declared.version.Version.TheVariants.{One}
 use Rattle.cs_tx_types.specs.Log.{leaf_encoding}
 use Rattle.cs_wire_message.specs.declared.message.Message.{Message}
 use Rattle.cs_wire_message.specs.declared.message.Message.TheVariants as message
@@ -51,7 +52,7 @@ sign_logged (Took sender vote x) kept = kept
 sign_logged (Entered x) kept = kept
 sign_logged (Viewed slot view) kept = kept
 sign_logged (Did slot place entry effect) kept =
-    logged_with_leaf (leaf_encoding (record { slot = slot; entry = entry; result = effect_from effect })) kept
+    logged_with_leaf (leaf_encoding One (record { slot = slot; place = 0; action = entry; result = effect_from effect })) kept
 sign_logged (Headed number head) kept = logged_with_head head kept
 sign_logged (Kept index checkpoint) kept = kept
 sign_logged (Sent to message) kept = kept
@@ -304,7 +305,7 @@ module _ {M : Type 0} (site : Site M) where
   with_last log kept = with_made (made_last log) kept
 
   -- the entry that was chosen for the next slot is executed
-  module _ (w : View M) (slot : ℕ) (entry : Entry) (kept : Logged) (is : kept ≡ logged_of w.bench.log) (enough : HasLeaves w.bench.log)
+  module _ (w : View M) (slot : ℕ) (entry : Action) (kept : Logged) (is : kept ≡ logged_of w.bench.log) (enough : HasLeaves w.bench.log)
       (next : slot ≡ length w.bench.log.leaves) (chosen : length (chosen_in w.member.deeds) ≡ suc slot) where
     abbrev ran : Ran
     ran = executed site.setup w.me.shard w.bench entry
@@ -316,7 +317,7 @@ module _ {M : Type 0} (site : Site M) where
     the_did = Did slot 0 entry ran.effect ∷ []
 
     abbrev leaf_at : ℕ → Bytes
-    leaf_at n = leaf_encoding (record { slot = n; entry = entry; result = effect_from ran.effect })
+    leaf_at n = leaf_encoding One (record { slot = n; place = 0; action = entry; result = effect_from ran.effect })
 
     did-left : HeadLeft (At w the_did) (told the_did kept)
     did-left =
@@ -427,7 +428,7 @@ module _ {M : Type 0} (site : Site M) where
   moving-sent : (v : View M) (deed : Deed M) → AllSent (moved v deed)
   moving-sent v deed = sent-append (handed site v.me (sent_by deed)) _ (handed-sent v.me (sent_by deed)) (view-sent (length (chosen_in v.member.deeds)) (site.machine.view v.member) (site.machine.view (did deed v.member)))
 
-  due-leads : (v : View M) (o : Option Entry) → TurnLeads v (due_marks site v o)
+  due-leads : (v : View M) (o : Option Action) → TurnLeads v (due_marks site v o)
   due-leads v None = tt
   due-leads v (Some entry) = with-leads v (Proposing (site.proposed_of entry) (site.machine.proposing v.member (site.proposed_of entry))) refl
 
@@ -559,4 +560,4 @@ module _ {M : Type 0} (site : Site M) where
   after-enough (Plain (Did slot place entry effect) ∷ past) v enough =
       let w = view_after site past v in
       let ran : Ran = executed site.setup w.me.shard w.bench entry in
-      slot_enough w.bench.log (leaf_encoding (next_leaf w.bench entry ran.effect)) (root_under ran.bench.keys ran.bench.table) (after-enough past v enough)
+      slot_enough w.bench.log (leaf_encoding One (next_leaf w.bench entry ran.effect)) (root_under ran.bench.keys ran.bench.table) (after-enough past v enough)

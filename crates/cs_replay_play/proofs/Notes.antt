@@ -14,8 +14,8 @@ use Rattle.cs_replay_rules.specs.Aborts.{with_aborted_digest, aborted_after, abo
 use Rattle.cs_node_rules.specs.World.{Execution, with_first_execution, firsts_after}
 use Rattle.cs_node_rules.specs.Lines.{parcels_of, slot_line, drop_line, view_line, head_line, if_traced, sign_lines}
 use Rattle.cs_tx.specs.Digest.{digest_of_session}
-use Rattle.cs_tx_types.specs.declared.entry.Entry.{Entry}
-use Rattle.cs_tx_types.specs.declared.entry.Entry.TheVariants.{Prepare, Decide}
+use Rattle.cs_tx_types.specs.declared.action.Action.{Action}
+use Rattle.cs_tx_types.specs.declared.action.Action.TheVariants.{Prepare, Decide}
 use Rattle.cs_tx_types.specs.declared.session.Session.{Session}
 use Rattle.cs_table.specs.Effects.{effect_of}
 use Rattle.cs_wire.specs.declared.input.Out.{Out}
@@ -73,7 +73,7 @@ module _ (config : Config) (setup : Setup) (deploys : Deploys config setup) wher
       ap (λ b. cond b (with_aborted_digest (digest_of setup x) aborted) aborted) (bytes-same (digest_of setup x))
       ∙ ap (λ d. with_aborted_digest d aborted) (deploys.session x)
 
-  abort-after : (entry : Entry) (effect : Shard.Effect) (aborted : List Bytes) → aborted_after setup entry effect aborted ≡ with_abort entry effect aborted
+  abort-after : (entry : Action) (effect : Shard.Effect) (aborted : List Bytes) → aborted_after setup entry effect aborted ≡ with_abort entry effect aborted
   abort-after (Prepare x) (Shard.Voted Shard.Commit) aborted = refl
   abort-after (Prepare x) (Shard.Voted Shard.Abort) aborted = abort-is x aborted
   abort-after (Prepare x) Shard.Accepted aborted = refl

@@ -15,7 +15,7 @@ use Rattle.cs_replay_rules.specs.Lines.{at_line, sent_lines}
 use Rattle.cs_replay_rules.specs.Play.{Played, Goes, Stops, size_of, most_events, most_sent, plays, within, occurs, arrived, with_arrived, comes}
 use Rattle.cs_node.specs.declared.outs.Made.{Made}
 use Rattle.cs_node.specs.Notes.{notes_of}
-use Rattle.cs_node.specs.declared.nodes.Core.{Core}
+use Rattle.cs_node.specs.declared.node_core.Core.{Core}
 use Rattle.cs_replay_play.specs.declared.play.Replay.{Replay}
 use Rattle.cs_replay_play.specs.Kept.{KeptHistory, KeepsHistory}
 use Rattle.cs_replay_play.specs.Logged.{AllLogged}

@@ -9,7 +9,7 @@ use Rattle.cs_node_rules.specs.Site.{Input, Mark, In, Ordered, Plain, Site, View
 use Rattle.cs_node_rules.specs.Trail.{event_marks}
 use Rattle.cs_node_rules.specs.World.{Happening, trail_of, view_of, happens}
 use Rattle.cs_node_rules.specs.Ready.{IsQuiet}
-use Rattle.cs_node.specs.declared.nodes.Core.{Core}
+use Rattle.cs_node.specs.declared.node_core.Core.{Core}
 use Rattle.cs_node.specs.declared.outs.Made.{Made}
 use Rattle.cs_node.specs.Notes.{outs_of}
 use Rattle.cs_node.specs.Steps.{Event}

@@ -3,8 +3,8 @@ use Rattle.std.specs.Prelude.{◌≡◌, ℕ, suc, ◌+◌, ◌<◌, nat_lt, ◌
 use Rattle.std.specs.List.{list_all, list_any}
 use Rattle.cs_base.specs.declared.config.Config.{Config}
 use Rattle.cs_tx_types.specs.declared.session.Session.{Session}
-use Rattle.cs_tx_types.specs.declared.entry.Entry.{Entry}
-use Rattle.cs_tx_types.specs.declared.entry.Entry.TheVariants.{Prepare, Decide}
+use Rattle.cs_tx_types.specs.declared.action.Action.{Action}
+use Rattle.cs_tx_types.specs.declared.action.Action.TheVariants.{Prepare, Decide}
 use Rattle.cs_tx.specs.Digest.{digest_of_tx, digest_of_session}
 use Rattle.cs_ledger.specs.Ledger.{Bytes}
 use Rattle.cs_ledger.specs.Table as Shard
@@ -99,19 +99,19 @@ after_prepare kept shard x Shard.Aborted = kept
 after_prepare kept shard x Shard.Skipped = kept
 after_prepare kept shard x Shard.Void = kept
 
-abbrev pub after_execution : KeptHistory → ℕ → Entry → Shard.Effect → KeptHistory
+abbrev pub after_execution : KeptHistory → ℕ → Action → Shard.Effect → KeptHistory
 after_execution kept shard (Prepare x) effect = after_prepare kept shard x effect
 after_execution kept shard (Decide vote x) effect = kept
 
 -- what is kept after an execution, where its place is new
-abbrev pub kept_after : KeptHistory → ℕ → ℕ → ℕ → Entry → Shard.Effect → KeptHistory
+abbrev pub kept_after : KeptHistory → ℕ → ℕ → ℕ → Action → Shard.Effect → KeptHistory
 kept_after kept shard slot place entry effect =
     if is_new kept shard slot place
     then after_execution (entered_place kept shard slot place) shard entry effect
     else kept
 
 -- with the session of an execution that decides abort on it
-abbrev pub with_abort : Entry → Shard.Effect → List Bytes → List Bytes
+abbrev pub with_abort : Action → Shard.Effect → List Bytes → List Bytes
 with_abort (Prepare x) (Shard.Voted Shard.Abort) aborted = with_aborted_digest (digest_of_session x) aborted
 with_abort (Decide vote x) Shard.Aborted aborted = with_aborted_digest (digest_of_session x) aborted
 with_abort entry effect aborted = aborted

@@ -1,6 +1,7 @@
 -- What a replay keeps of a node's log, from what the node's notes tell.
 use Rattle.std.specs.Prelude.{◌≡◌, ℕ, zero, suc, List, [], ◌∷◌, ◌++◌, length, slice_get, Some}
 use Rattle.cs_base.specs.declared.node_id.NodeId.{NodeId}
+use Rattle.cs_base.specs.declared.version.Version.TheVariants.{One}
 use Rattle.cs_tx_types.specs.Log.{leaf_encoding}
 use Rattle.cs_check_rules.specs.Chain.{Log}
 use Rattle.cs_order.specs.Deeds.{chosen_in}
@@ -32,7 +33,7 @@ note_logged (note.Dropped cause) kept = kept
 note_logged (note.Viewed slot view) kept = kept
 note_logged (note.Headed number head) kept = logged_with_head head kept
 note_logged (note.Executed slot place entry effect) kept =
-    logged_with_leaf (leaf_encoding (record { slot = slot; entry = entry; result = effect })) kept
+    logged_with_leaf (leaf_encoding One (record { slot = slot; place = 0; action = entry; result = effect })) kept
 
 abbrev pub notes_logged : List Note → Logged → Logged
 notes_logged [] kept = kept

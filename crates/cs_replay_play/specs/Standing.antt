@@ -18,7 +18,7 @@ use Rattle.cs_node_rules.specs.World.{Happening, view_of, happens, firsts_of}
 use Rattle.cs_replay_rules.specs.Aborts.{aborted}
 use Rattle.cs_replay_rules.specs.Play.{Played, size_of, most_sent}
 use Rattle.cs_node_rules.specs.Deployment.{site_of}
-use Rattle.cs_node.specs.declared.nodes.Core.{Core}
+use Rattle.cs_node.specs.declared.node_core.Core.{Core}
 use Rattle.cs_node.specs.declared.outs.Made.{Made}
 use Rattle.cs_node.specs.Notes.{notes_of, outs_of}
 use Rattle.cs_node.specs.Cores.{CoreStandsFor}
@@ -67,12 +67,13 @@ pub record Delivered {O J M : Type 0} (stands : O → Member M → Type 0) (appr
 
 -- ---- a replay
 
--- the honest nodes of the net are those with names, and the datagrams of others are made of this master key
+-- the honest nodes of the net are those with names, and the datagrams of others are made of this master key, in version 1
 pub record Rests (s : Setting) (count : ℕ) (voicing : Voicing) : Type 0 where
   pub honest : (name : NodeId) → (s.net.is_honest name ≡ true) ↔ HasNode s.names s.count name
   pub shards : (i : ℕ) → i < s.count → (s.names i).shard < count
   pub liars : List NodeId
   pub speaks : s.net ≡ net_of voicing.config voicing.master liars
+  pub first : voicing.config.version ≡ 1
 
 -- it stands for what was played
 pub record Stands {O J M : Type 0} (stands : O → Member M → Type 0) (approves : J → Tx → Bool)

@@ -1,5 +1,6 @@
 -- Those whose words a schedule says.
 use Rattle.std.specs.Prelude.{◌≡◌, ℕ, ◌<◌, false, true, List, [], ◌∷◌, length, get_or}
+use Rattle.cs_base.specs.Version.{version_of}
 use Rattle.cs_base.specs.declared.config.Config.{Config}
 use Rattle.cs_base.specs.declared.node_id.NodeId.{NodeId}
 use Rattle.cs_base.specs.NodeId.{is_named, same_name}
@@ -22,7 +23,7 @@ AreOfMaster config master (keys ∷ more) = IsOfMaster config master keys.me key
 abbrev pub SaysTo : Voicing → NodeId → NodeId → ℕ → Bytes → Bytes → Type 0
 SaysTo v from to kind body bytes =
     is_named v.config to ≡ true → same_name to from ≡ false
-    → bytes ≡ datagram_with (key_between v.master from to) from to kind body
+    → bytes ≡ datagram_with (version_of v.config.version) (key_between v.master from to) from to kind body
 
 -- the keys at this place are those of this name
 pub record HoldsAt (config : Config) (master : Bytes) (name : NodeId) (keys : List Keys) (place : ℕ) : Type 0 where

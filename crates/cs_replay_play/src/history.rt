@@ -1,6 +1,6 @@
 //! The history, kept from the executions as they come.
 ghost use Rattle.std.specs.Prelude.{◌≡◌, ◌<◌, ◌==◌, [], length, IfOk, OnOk, List, replicate};
-ghost use Rattle.cs_tx_types.specs.Session.{SessionFits, EntryFits, session_in};
+ghost use Rattle.cs_tx_types.specs.Session.{SessionFits, ActionFits, session_in};
 ghost use Rattle.cs_node_state.specs.Setup.{Setup};
 ghost use Rattle.cs_replay_rules.specs.Aborts.{with_aborted_digest};
 ghost use Rattle.cs_node_rules.specs.World.{Execution, with_first_execution};
@@ -13,7 +13,7 @@ ghost use Rattle.cs_replay_play.specs.Kept.{KeepsHistory, IsBeforeFirst, is_comm
 
 use cs_base::{Config, Memory};
 use cs_node::Effect;
-use cs_tx::{Digest, Entry, Session, Vote, concerned, tx_digest};
+use cs_tx::{Action, Digest, Session, Vote, concerned, tx_digest};
 use indexmap::IndexSet;
 use std::alloc::Global;
 use std::marker::Model;
@@ -94,11 +94,11 @@ impl History {
         shard: u16,
         slot: u64,
         place: u8,
-        entry: &Entry,
+        entry: &Action,
         digest: &Digest,
         effect: Effect,
     ) -> Result<(), Memory>
-        requires fits { EntryFits entry.now }
+        requires fits { ActionFits entry.now }
         requires named { digest.now ≡ digest_of_session (session_in entry.now) }
         ensures kept { (setup : Setup) (firsts : List Execution)
             → shard < self.old.config.shards → KeepsHistory setup firsts self.old
@@ -113,15 +113,15 @@ impl History {
     }
 
     // The session of an execution that decides abort on it.
-    fn note_abort(&mut self, entry: &Entry, digest: &Digest, effect: Effect) -> Result<(), Memory>
+    fn note_abort(&mut self, entry: &Action, digest: &Digest, effect: Effect) -> Result<(), Memory>
         requires { digest.now ≡ digest_of_session (session_in entry.now) }
         ensures { OnOk result (self.new ≡ record self.old {
           aborted = with_abort entry.now (effect_of effect) self.old.aborted;
         }) }
     {
         match (entry, effect) {
-            (Entry::Prepare(_), Effect::Voted(Vote::Abort)) => self.abort(digest),
-            (Entry::Decide(_, _), Effect::Aborted) => self.abort(digest),
+            (Action::Prepare(_), Effect::Voted(Vote::Abort)) => self.abort(digest),
+            (Action::Decide(_, _), Effect::Aborted) => self.abort(digest),
             _ => Ok(()),
         }
     }
@@ -141,11 +141,11 @@ impl History {
         shard: u16,
         slot: u64,
         place: u8,
-        entry: &Entry,
+        entry: &Action,
         digest: &Digest,
         effect: Effect,
     ) -> Result<(), Memory>
-        requires fits { EntryFits entry.now }
+        requires fits { ActionFits entry.now }
         requires named { digest.now ≡ digest_of_session (session_in entry.now) }
         ensures kept { shard < self.old.config.shards
             → OnOk result (self.new ≡ kept_after self.old shard slot place entry.now (effect_of effect)) }
@@ -179,16 +179,16 @@ impl History {
         &mut self,
         alloc: Global,
         shard: u16,
-        entry: &Entry,
+        entry: &Action,
         digest: &Digest,
         effect: Effect,
     ) -> Result<(), Memory>
-        requires fits { EntryFits entry.now }
+        requires fits { ActionFits entry.now }
         requires named { digest.now ≡ digest_of_session (session_in entry.now) }
         ensures { OnOk result (self.new ≡ after_execution self.old shard entry.now (effect_of effect)) }
     {
         match (entry, effect) {
-            (Entry::Prepare(session), Effect::Voted(vote)) => {
+            (Action::Prepare(session), Effect::Voted(vote)) => {
                 self.prepare(alloc, shard, session, *digest, vote)
             }
             _ => Ok(()),

@@ -1,5 +1,6 @@
 //! The log of a node, kept from what the node tells.
 ghost use Rattle.std.specs.Prelude.{◌≡◌, length, replicate, IfOk, OnOk};
+ghost use Rattle.cs_base.specs.declared.version.Version.TheVariants.{One};
 ghost use Rattle.cs_tx_types.specs.Log.{leaf_encoding, LeafFits};
 ghost use Rattle.cs_node.specs.Notes.{NoteFits, NotesFit};
 ghost use Rattle.cs_replay_play.specs.Logged.{none_logged, logged_with_leaf, note_logged, notes_logged, logged_at};
@@ -59,7 +60,7 @@ impl NodeLog {
         self.heads.as_slice()
     }
 
-    /// Takes in what the node told of an event. Each entry is encoded once, and none is copied.
+    /// Takes in what the node told of an event. Each action is encoded once, and none is copied.
     pub fn take(&mut self, alloc: Global, notes: Vec<Note>) -> Result<(), Memory>
         requires { NotesFit notes.items }
         ensures { OnOk result (self.new ≡ notes_logged notes.items self.old) }
@@ -77,14 +78,15 @@ impl NodeLog {
         match note {
             Note::Executed {
                 slot,
-                entry,
+                action,
                 effect,
                 ..
             } => self.execute(
                 alloc,
                 &Leaf {
                     slot,
-                    entry,
+                    place: 0,
+                    action,
                     result: effect,
                 },
             ),
@@ -97,8 +99,8 @@ impl NodeLog {
     }
 
     fn execute(&mut self, alloc: Global, leaf: &Leaf) -> Result<(), Memory>
-        requires { LeafFits leaf.now }
-        ensures { OnOk result (self.new ≡ logged_with_leaf (leaf_encoding leaf.now) self.old) }
+        requires { LeafFits One leaf.now }
+        ensures { OnOk result (self.new ≡ logged_with_leaf (leaf_encoding One leaf.now) self.old) }
     {
         let bytes = encode_leaf(alloc, leaf)?;
         self.leaves.push(Sequence::from_vec(bytes))?;

@@ -76,11 +76,11 @@ fn tell_note(
         Note::Executed {
             slot,
             place,
-            entry,
+            action,
             effect,
         } => {
-            let digest = digest_in(alloc, entry)?;
-            history.execute(alloc, me.shard, *slot, *place, entry, &digest, *effect)?;
+            let digest = digest_in(alloc, action)?;
+            history.execute(alloc, me.shard, *slot, *place, action, &digest, *effect)?;
             slot_line(alloc, me, *slot, &digest, *effect)
         }
         Note::Headed { number, head } => head_line(alloc, me, *number, head),

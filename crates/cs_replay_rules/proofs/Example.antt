@@ -6,8 +6,8 @@ use Rattle.hex.specs.Hex.{encode_with}
 use Rattle.cs_base.specs.declared.node_id.NodeId.{NodeId}
 use Rattle.cs_tx_types.specs.declared.session.Session.{Session}
 use Rattle.cs_tx_types.specs.declared.vote.Vote.TheVariants.{Commit, Abort}
-use Rattle.cs_tx_types.specs.declared.entry.Entry.{Entry}
-use Rattle.cs_tx_types.specs.declared.entry.Entry.TheVariants.{Prepare, Decide}
+use Rattle.cs_tx_types.specs.declared.action.Action.{Action}
+use Rattle.cs_tx_types.specs.declared.action.Action.TheVariants.{Prepare, Decide}
 use Rattle.cs_order.specs.declared.solo.NoMessage.{NoMessage}
 use Rattle.cs_order.specs.Counts.{count_below}
 use Rattle.cs_order.specs.Solo.{solo}
@@ -53,12 +53,12 @@ transaction number =
     else if number == 20 then moving 162 1 6 (coin 5 6 ∷ [])
     else record { digest = 163 ∷ []; inputs = coin 1 5 ∷ []; references = []; outputs = []; sound = true; approved = false }
 
-abbrev pub bytes_of : Entry → Bytes
+abbrev pub bytes_of : Action → Bytes
 bytes_of (Prepare x) = 0 ∷ x.number ∷ []
 bytes_of (Decide Commit x) = 1 ∷ x.number ∷ []
 bytes_of (Decide Abort x) = 2 ∷ x.number ∷ []
 
-abbrev entry_at : Bytes → Entry
+abbrev entry_at : Bytes → Action
 entry_at (zero ∷ number ∷ []) = Prepare (session number)
 entry_at (suc zero ∷ number ∷ []) = Decide Commit (session number)
 entry_at (suc (suc n) ∷ number ∷ []) = Decide Abort (session number)

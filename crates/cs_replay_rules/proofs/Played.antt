@@ -13,6 +13,7 @@ use Rattle.cs_tx_value.specs.declared.object.Object.{Object}
 use Rattle.cs_tx_types.specs.declared.session.Session.{Session}
 use Rattle.cs_wire_message.specs.declared.message.Message.{Message}
 use Rattle.cs_wire_message.specs.laws.Kinds.{kind_small}
+use Rattle.cs_base.specs.declared.version.Version.TheVariants.{One}
 use Rattle.cs_wire_message.specs.Message.{kind_of, body_of}
 use Rattle.cs_order.specs.Deeds.{Machine}
 use Rattle.cs_order.specs.Law.{Holds}
@@ -20,7 +21,7 @@ use Rattle.cs_sched.specs.declared.schedule.Event.{Event}
 use Rattle.cs_sched.specs.declared.schedule.Event.TheVariants as event
 use Rattle.cs_wire.specs.Keys.{key_between}
 use Rattle.cs_wire.specs.Opens.{IsName}
-use Rattle.cs_wire.specs.Opened.{Opened, keys_of_master}
+use Rattle.cs_wire.specs.Opened.{Opened}
 use Rattle.cs_ledger.specs.Ledger.{Bytes}
 use Rattle.cs_ledger.specs.Session as Seen
 use Rattle.cs_ledger.proofs.Basics.{in_either, bytes_refl}
@@ -29,7 +30,7 @@ use Rattle.cs_node_rules.specs.Site.{Input, Datagram, Tick, Mark, In, Ordered, P
 use Rattle.cs_node_rules.specs.Trail.{event_marks}
 use Rattle.cs_node_rules.specs.World.{Happening, trail_of, view_of, happens, IsLife, sent_in, was_sent, is_backed, is_genuine, is_genuine_input}
 use Rattle.cs_node_rules.specs.Lines.{Parcel, parcels_of}
-use Rattle.cs_node_rules.specs.Net.{Net, net_of, sealed_by_net}
+use Rattle.cs_node_rules.specs.Net.{Net, first_keys, net_of, sealed_by_net}
 use Rattle.cs_replay_rules.specs.Play.{Played, unplayed, Course, Goes, Stops, Forges, then_plays, played_by, size_of, most_events, most_sent, plays, within, occurs, injects, arrived, with_arrived, delivers, first_left, drains, drained, play, play_all}
 use Rattle.cs_node_rules.specs.Carrying.{Carries}
 use Rattle.cs_node_law.specs.Made.{view_at, AllMade, IsLevel}
@@ -164,7 +165,7 @@ module _ {M : Type 0} (machine : Machine M) (holds : Holds machine) (carrier : C
       ]
 
   opens-as : (from to : NodeId) (kind : ℕ) (body : Bytes) → IsName from → IsName to → kind < 256 → length body < 2 ^ 32 → (me : NodeId) (said : NodeId × Message) → net.opened me (net.datagram from to kind body) ≡ Ok said → said.0 ≡ from
-  opens-as from to kind body named addressed low short me said e = opens-from (key_between master from to) from to kind body named addressed low short (keys_of_master config master me) said e
+  opens-as from to kind body named addressed low short me said e = opens-from (key_between master from to) from to kind body named addressed low short (first_keys config master me) said e
 
   -- ---- what the marks of a node send
 
@@ -172,8 +173,8 @@ module _ {M : Type 0} (machine : Machine M) (holds : Holds machine) (carrier : C
   sealed-fair me to said t honest bytes made =
       let spoken = λ (h : net.is_honest to ≡ true). spoken-bytes said (sent-fits machine carrier config master liars genesis session_of carries holds me t bytes to (no-client to h) said made) in
       record {
-        bytes = λ h. bytes-datagram (key_between master me to) me to (kind_of said) (body_of said) (kind_small said) (spoken h).0;
-        from = λ h name other e. opens-as me to (kind_of said) (body_of said) (honest-named me honest) (honest-named to h) (kind_small said) (spoken h).1 name other e;
+        bytes = λ h. bytes-datagram (key_between master me to) me to (kind_of said) (body_of One said) (kind_small said) (spoken h).0;
+        from = λ h name other e. opens-as me to (kind_of said) (body_of One said) (honest-named me honest) (honest-named to h) (kind_small said) (spoken h).1 name other e;
       }
 
   sent-fair : (me : NodeId) (a t : List (Mark M)) → net.is_honest me ≡ true → AllBytes (a ++ t) → AllMade At me (a ++ t) → AreFair net (parcels_of net me (signs_of a))

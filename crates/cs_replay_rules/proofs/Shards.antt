@@ -8,8 +8,8 @@ use Rattle.cs_tx_types.specs.declared.trace.Trace.{Trace}
 use Rattle.cs_tx_types.specs.declared.session.Session.{Session}
 use Rattle.cs_tx_types.specs.declared.vote.Vote.{Vote}
 use Rattle.cs_tx_types.specs.declared.vote.Vote.TheVariants.{Commit, Abort}
-use Rattle.cs_tx_types.specs.declared.entry.Entry.{Entry}
-use Rattle.cs_tx_types.specs.declared.entry.Entry.TheVariants.{Prepare, Decide}
+use Rattle.cs_tx_types.specs.declared.action.Action.{Action}
+use Rattle.cs_tx_types.specs.declared.action.Action.TheVariants.{Prepare, Decide}
 use Rattle.cs_order.specs.declared.solo.NoMessage.{NoMessage}
 use Rattle.cs_order.specs.Counts.{count_below}
 use Rattle.cs_order.specs.Solo.{solo}
@@ -50,7 +50,7 @@ abbrev session : ℕ → Session
 session zero = record { tx = record { traces = [] }; number = 16; dummies = [] }
 session (suc n) = record { tx = record { traces = trace ∷ [] }; number = 17; dummies = [] }
 
-abbrev entry_at : Bytes → Entry
+abbrev entry_at : Bytes → Action
 entry_at (zero ∷ number ∷ []) = Prepare (session (if number == 16 then 0 else 1))
 entry_at (suc zero ∷ number ∷ []) = Decide Commit (session (if number == 16 then 0 else 1))
 entry_at _ = Decide Abort (session 1)

@@ -1,7 +1,7 @@
 -- The sessions of a world on which an abort was decided.
 use Rattle.std.specs.Prelude.{if◌then◌else◌, List, [], ◌∷◌, ◌++◌, bytes_eq}
 use Rattle.std.specs.List.{list_any}
-use Rattle.cs_tx_types.specs.declared.entry.Entry.{Entry}
+use Rattle.cs_tx_types.specs.declared.action.Action.{Action}
 use Rattle.cs_ledger.specs.Ledger.{Bytes}
 use Rattle.cs_ledger.specs.Table.{Effect}
 use Rattle.cs_node_state.specs.Setup.{Setup, digest_of}
@@ -15,7 +15,7 @@ abbrev pub with_aborted_digest : Bytes → List Bytes → List Bytes
 with_aborted_digest d digests = if list_any (bytes_eq d) digests then digests else digests ++ d ∷ []
 
 -- with the digest of the session of an execution that decides abort on it
-abbrev pub aborted_after : Setup → Entry → Effect → List Bytes → List Bytes
+abbrev pub aborted_after : Setup → Action → Effect → List Bytes → List Bytes
 aborted_after setup entry effect earlier =
     if aborts_by setup (digest_of setup (session_in entry)) entry effect
     then with_aborted_digest (digest_of setup (session_in entry)) earlier

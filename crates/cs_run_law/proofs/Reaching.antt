@@ -7,6 +7,7 @@ use Rattle.std.proofs.lemmas.List.Folds.{list_all-append}
 use Rattle.cs_base.specs.declared.config.Config.{Config}
 use Rattle.cs_base.specs.declared.node_id.NodeId.{NodeId}
 use Rattle.cs_base.specs.NodeId.{is_node, is_named, same_name, members_below}
+use Rattle.cs_base.specs.declared.version.Version.TheVariants.{One}
 use Rattle.cs_wire.specs.declared.keys.Row.{Row}
 use Rattle.cs_wire.specs.declared.keys.Keys.{Keys}
 use Rattle.cs_wire.specs.Keys.{Listed, row_listed, row_of_peer, row_of, stands, peer_twice}
@@ -72,10 +73,10 @@ past : {A B : Type 0} (r : Result A ConfigError) (f : A → Result B ConfigError
 past {A} {B} (Ok x) f y is = (x, is)
 past {A} {B} (Err e) f y is = absurd (let q : Err e ≡ Ok y = is in cc)
 
-listed : (config : Config) (me : NodeId) (list : List Listed) (keys : Keys) → listed_keys config me list ≡ Ok keys → (is_complete config me list ≡ true) × (keys ≡ record { me = me; rows = map row_listed list })
+listed : (config : Config) (me : NodeId) (list : List Listed) (keys : Keys) → listed_keys config me list ≡ Ok keys → (is_complete config me list ≡ true) × (keys ≡ record { me = me; rows = map row_listed list; version = One })
 listed config me list keys is = by (is_complete config me list) (is_none (peer_twice me [] 0 list)) is
   where
-    by : (a b : Bool) → cond (a && b) (Ok (record { me = me; rows = map row_listed list })) (Err (Field field.Peers)) ≡ Ok keys → (a ≡ true) × (keys ≡ record { me = me; rows = map row_listed list })
+    by : (a b : Bool) → cond (a && b) (Ok (record { me = me; rows = map row_listed list; version = One })) (Err (Field field.Peers)) ≡ Ok keys → (a ≡ true) × (keys ≡ record { me = me; rows = map row_listed list; version = One })
     by true true is = (refl, cc)
     by true false is = absurd (cc)
     by false b is = absurd (cc)

@@ -11,8 +11,8 @@ use Rattle.cs_tx_types.specs.declared.transaction.Tx.{Tx}
 use Rattle.cs_tx_types.specs.declared.session.Session.{Session}
 use Rattle.cs_tx_types.specs.declared.vote.Vote.{Vote}
 use Rattle.cs_tx_types.specs.declared.vote.Vote.TheVariants.{Commit, Abort}
-use Rattle.cs_tx_types.specs.declared.entry.Entry.{Entry}
-use Rattle.cs_tx_types.specs.declared.entry.Entry.TheVariants.{Prepare, Decide}
+use Rattle.cs_tx_types.specs.declared.action.Action.{Action}
+use Rattle.cs_tx_types.specs.declared.action.Action.TheVariants.{Prepare, Decide}
 use Rattle.cs_tx.specs.Uses.{anchor_of}
 use Rattle.cs_tx.specs.Sessions.{ledger_session, key_seen}
 use Rattle.cs_tx.proofs.AnchorSeen.{anchor-session_of}
@@ -114,12 +114,12 @@ module _ (me : NodeId) (x : Session) (y : Seen.Session) (told tnew : Stored) (po
 
 -- ---- the table stays that of the shard
 
-pub marked : (approves : Tx → Bool) (me : NodeId) (entry : Entry) (told tnew : Stored) (pold pnew : Pool) (answer : Outcome)
+pub marked : (approves : Tx → Bool) (me : NodeId) (entry : Action) (told tnew : Stored) (pold pnew : Pool) (answer : Outcome)
     → RunsEntry approves me entry told tnew pold pnew answer → MarksTouched told tnew
 marked approves me (Prepare x) told tnew pold pnew answer r = r.table_is.marks
 marked approves me (Decide vote x) told tnew pold pnew answer r = r.table_is.marks
 
-pub stays : (approves : Tx → Bool) (config : Config) (me : NodeId) (entry : Entry) (told tnew : Stored) (pold pnew : Pool) (answer : Outcome)
+pub stays : (approves : Tx → Bool) (config : Config) (me : NodeId) (entry : Action) (told tnew : Stored) (pold pnew : Pool) (answer : Outcome)
     → IsOfNode config me told → RunsEntry approves me entry told tnew pold pnew answer → IsOfNode config me tnew
 stays approves config me (Prepare x) told tnew pold pnew answer of r =
     record { node = of.node; shards = r.table_is.shards ∙ of.shards; shard = r.table_is.shard ∙ of.shard }
@@ -176,7 +176,7 @@ module _ (config : Config) (me : NodeId) (told : Stored) (of : IsOfNode config m
         abbrev held_with : Stored → Pool → Held
         held_with table pool = record { config = config; me = me; table = table; pool = pool; archived = archived }
 
-        pub executes : (entry : Entry) (tnew : Stored) (pold pnew : Pool) (answer : Outcome)
+        pub executes : (entry : Action) (tnew : Stored) (pold pnew : Pool) (answer : Outcome)
             → Setup.is_fit setup me.shard (session_in entry) ≡ true → AreKnown (keys_in tnew.rows) (seen tnew)
             → RunsEntry approves me entry told tnew pold pnew answer
             → Executes setup log entry (held_with told pold) (held_with tnew pnew) answer
@@ -211,10 +211,10 @@ module _ (config : Config) (me : NodeId) (told : Stored) (of : IsOfNode config m
             }
 
         -- an entry that isn't fit changes nothing
-        abbrev Nothing : Entry → Pool → Type 0
+        abbrev Nothing : Action → Pool → Type 0
         Nothing entry pool = Executes setup log entry (held_with told pool) (held_with told pool) (record { effect = Void; voted = None })
 
-        nothing-by : (entry : Entry) (pool : Pool)
+        nothing-by : (entry : Action) (pool : Pool)
             → Shard.exec setup.rules me.shard (seen told) (Setup.entry_of setup entry) ≡ record { table = seen told; effect = Shard.Void }
             → Nothing entry pool
         nothing-by entry pool e =
@@ -242,7 +242,7 @@ module _ (config : Config) (me : NodeId) (told : Stored) (of : IsOfNode config m
         unfit t true o h = let q : true ≡ false = h in cc
         unfit t false o h = refl
 
-        pub executes-nothing : (entry : Entry) (pool : Pool) → Setup.is_fit setup me.shard (session_in entry) ≡ false → Nothing entry pool
+        pub executes-nothing : (entry : Action) (pool : Pool) → Setup.is_fit setup me.shard (session_in entry) ≡ false → Nothing entry pool
         executes-nothing (Prepare x) pool misfit = nothing-by (Prepare x) pool (unfit (seen told) _ _ misfit)
         executes-nothing (Decide vote x) pool misfit = nothing-by (Decide vote x) pool (unfit (seen told) _ _ misfit)
 

@@ -6,8 +6,8 @@ use Rattle.cs_ledger.specs.Ledger.{Bytes}
 use Rattle.cs_ledger.specs.Session.{Key}
 use Rattle.cs_ledger.specs.Table as Shard
 use Rattle.cs_tx_types.specs.declared.session.Session.{Session}
-use Rattle.cs_tx_types.specs.declared.entry.Entry.{Entry}
-use Rattle.cs_tx_types.specs.declared.entry.Entry.TheVariants.{Prepare, Decide}
+use Rattle.cs_tx_types.specs.declared.action.Action.{Action}
+use Rattle.cs_tx_types.specs.declared.action.Action.TheVariants.{Prepare, Decide}
 use Rattle.cs_tx_types.specs.declared.transaction.Tx.{Tx}
 use Rattle.cs_tx.specs.Sessions.{ledger_session}
 use Rattle.cs_tx_types.specs.declared.effect.Effect.{Effect}
@@ -54,7 +54,7 @@ abbrev pub placed : Bool → Bytes → Session → Pool → Pool
 placed locked d x pool = if locked then entered_locked d x pool else without_session d pool
 
 -- the execution of an entry behind a log answered this, and left this
-pub record Executes (setup : Setup) (log : Log) (entry : Entry) (old new : Held) (answer : Outcome) : Type 0 where
+pub record Executes (setup : Setup) (log : Log) (entry : Action) (old new : Held) (answer : Outcome) : Type 0 where
   pub effect_is : effect_of answer.effect ≡ (executed setup old.me.shard (bench_of log old) entry).effect
   pub voted_is : answer.voted
       ≡ vote_told setup old.me.shard (session_in entry) (executed setup old.me.shard (bench_of log old) entry)
@@ -80,7 +80,7 @@ pub record RunsSession (me : NodeId) (x : Session) (d : Bytes) (outcome : Shard.
   pub pool_is : pnew ≡ own_pool me d (told_by outcome.effect (is_locked_at outcome.table d anchor))
       (pool_after outcome.effect (is_locked_at outcome.table d anchor) d x pold)
 
-abbrev pub RunsEntry : (Tx → Bool) → NodeId → Entry → Stored → Stored → Pool → Pool → Outcome → Type 0
+abbrev pub RunsEntry : (Tx → Bool) → NodeId → Action → Stored → Stored → Pool → Pool → Outcome → Type 0
 RunsEntry approves me (Prepare x) told tnew pold pnew answer =
     RunsSession me x (ledger_session approves x).digest
     (prepare_outcome told (ledger_session approves x)) (anchor_in told (ledger_session approves x))

@@ -1,7 +1,7 @@
 //! Which entries a node admits, and the execution of one.
 ghost use Rattle.std.specs.Prelude.{◌≡◌, ◌↔◌, IsSome, IfOk, IfSome};
-ghost use Rattle.cs_tx_types.specs.declared.entry.Entry.TheVariants.{Prepare, Decide};
-ghost use Rattle.cs_tx_types.specs.Session.{SessionFits, EntryFits, session_in};
+ghost use Rattle.cs_tx_types.specs.declared.action.Action.TheVariants.{Prepare, Decide};
+ghost use Rattle.cs_tx_types.specs.Session.{SessionFits, ActionFits, session_in};
 ghost use Rattle.cs_check_rules.specs.Chain.{Log};
 ghost use Rattle.cs_node_state.specs.Admission.{admits_action, admits};
 ghost use Rattle.cs_tx.specs.Digest.{digest_of_session};
@@ -18,11 +18,11 @@ use cs_base::Memory;
 use cs_check::root_is_shown;
 use cs_node_pool::{Pool, is_decided};
 use cs_table::Effect;
-use cs_tx::{Digest, Entry, Judge, Session, Vote, session_digest};
+use cs_tx::{Action, Digest, Judge, Session, Vote, session_digest};
 use std::alloc::Global;
 
 /// The digest of the session of an entry, where it comes next in the pool.
-fn known_in(pool: &Pool, entry: &Entry) -> Result<Option<Digest>, Memory>
+fn known_in(pool: &Pool, entry: &Action) -> Result<Option<Digest>, Memory>
     ensures known { IfOk result (λ found.
         IfSome found (IsKnownSession pool.now.config (session_in entry.now))) }
     ensures next { AtEverySetup pool.now.config (λ setup.
@@ -30,8 +30,8 @@ fn known_in(pool: &Pool, entry: &Entry) -> Result<Option<Digest>, Memory>
         IsSome found ↔ IsNext setup pool.now.sessions (session_in entry.now))) }
 {
     match entry {
-        Entry::Prepare(session) => pool.known(session),
-        Entry::Decide(_, session) => pool.known(session),
+        Action::Prepare(session) => pool.known(session),
+        Action::Decide(_, session) => pool.known(session),
     }
 }
 
@@ -48,15 +48,15 @@ fn digest_of(alloc: Global, session: &Session, known: Option<Digest>) -> Result<
 }
 
 /// The same of the session of an entry.
-fn digest_in(alloc: Global, entry: &Entry, known: Option<Digest>) -> Result<Digest, Memory>
-    requires fits { EntryFits entry.now }
+fn digest_in(alloc: Global, entry: &Action, known: Option<Digest>) -> Result<Digest, Memory>
+    requires fits { ActionFits entry.now }
     requires known { IfSome known (λ digest.
         digest ≡ digest_of_session (session_in entry.now)) }
     ensures { IfOk result (λ digest. digest ≡ digest_of_session (session_in entry.now)) }
 {
     match entry {
-        Entry::Prepare(session) => digest_of(alloc, session, known),
-        Entry::Decide(_, session) => digest_of(alloc, session, known),
+        Action::Prepare(session) => digest_of(alloc, session, known),
+        Action::Decide(_, session) => digest_of(alloc, session, known),
     }
 }
 
@@ -107,22 +107,22 @@ impl Sbac {
 
     /// Whether the node admits an entry: a vote on an approved session, or a decision that the
     /// votes taken on a session of the pool carry.
-    pub fn admits<J: Judge>(&self, alloc: Global, entry: &Entry, judge: &J) -> Result<bool, Memory>
-        requires { EntryFits entry.now }
+    pub fn admits<J: Judge>(&self, alloc: Global, entry: &Action, judge: &J) -> Result<bool, Memory>
+        requires { ActionFits entry.now }
         ensures { AtAnyGenesis self.now.config (J.is_approved judge.now) (λ setup.
             IfOk result (λ admitted.
             admitted ≡ admits setup self.now.me.shard self.now.pool entry.now)) }
     {
         match entry {
-            Entry::Prepare(session) => self.admits_prepare(alloc, session, judge),
-            Entry::Decide(vote, session) => self.admits_decide(alloc, *vote, session),
+            Action::Prepare(session) => self.admits_prepare(alloc, session, judge),
+            Action::Decide(vote, session) => self.admits_decide(alloc, *vote, session),
         }
     }
 
     /// Executes an entry. A session that was voted on is locked now, and the node's own vote on it
     /// is taken; or it leaves the pool, as does one on which a decision took effect.
-    pub fn execute(&mut self, alloc: Global, entry: &Entry) -> Result<Outcome, Memory>
-        requires { EntryFits entry.now }
+    pub fn execute(&mut self, alloc: Global, entry: &Action) -> Result<Outcome, Memory>
+        requires { ActionFits entry.now }
         ensures { AtEverySetup self.old.config (λ setup. (log : Log) →
             IfOk result (λ answer. Executes setup log entry.now self.old self.new answer)) }
     {

@@ -1,7 +1,7 @@
 //! The execution of an entry on the table and the pool of a node.
 ghost use Rattle.std.specs.Prelude.{◌≡◌, Bool, true, Some, IsSome, OnOk, IfOk};
 ghost use Rattle.cs_tx_types.specs.declared.transaction.Tx.{Tx};
-ghost use Rattle.cs_tx_types.specs.Session.{SessionFits, EntryFits, session_in};
+ghost use Rattle.cs_tx_types.specs.Session.{SessionFits, ActionFits, session_in};
 ghost use Rattle.cs_tx.specs.Digest.{digest_of_session};
 ghost use Rattle.cs_tx.specs.Sessions.{ledger_session};
 ghost use Rattle.cs_tx.specs.WellFormed.{IsWellFormed};
@@ -17,7 +17,7 @@ use cs_base::{Memory, NodeId, Sequence};
 use cs_node_pool::Pool;
 use cs_node_state::{Ballot, Pooled};
 use cs_table::{Effect, Preparation, Table};
-use cs_tx::{Digest, Encoded, Entry, Session, Vote};
+use cs_tx::{Action, Digest, Encoded, Session, Vote};
 use std::alloc::Global;
 
 /// A session as it enters the pool.
@@ -152,10 +152,10 @@ pub fn run(
     me: NodeId,
     table: &mut Table,
     pool: &mut Pool,
-    entry: &Entry,
+    entry: &Action,
     digest: &Digest,
 ) -> Result<Outcome, Memory>
-    requires fits { EntryFits entry.now }
+    requires fits { ActionFits entry.now }
     requires formed { IsWellFormed pool.old.config (session_in entry.now) }
     requires named { digest.now ≡ digest_of_session (session_in entry.now) }
     requires anchored { IsSome
@@ -166,7 +166,7 @@ pub fn run(
     ensures config { pool.new.config ≡ pool.old.config }
 {
     match entry {
-        Entry::Prepare(session) => prepare(alloc, me, table, pool, session, digest),
-        Entry::Decide(vote, session) => decide(alloc, me, table, pool, *vote, session, digest),
+        Action::Prepare(session) => prepare(alloc, me, table, pool, session, digest),
+        Action::Decide(vote, session) => decide(alloc, me, table, pool, *vote, session, digest),
     }
 }

@@ -1,5 +1,6 @@
 //! What a node keeps for checkpoints: the slots that it executed, and the checkpoints of others.
 ghost use Rattle.std.specs.Prelude.{◌≡◌, ◌<◌, ◌^◌, IfOk, IfSome, OnOk};
+ghost use Rattle.cs_base.specs.declared.version.Version.TheVariants.{One};
 ghost use Rattle.cs_tx_types.specs.Log.{LeafFits, ProofFits};
 ghost use Rattle.cs_check_rules.specs.Chain.{made_last, AtItsLog};
 ghost use Rattle.cs_check_rules.specs.Heads.{is_news};
@@ -34,7 +35,7 @@ impl Sbac {
     /// Takes the leaf of the slot that was executed last, and tells the checkpoint that it made, if
     /// it made one.
     pub fn close(&mut self, alloc: Global, leaf: &Leaf) -> Result<Option<Checkpoint>, Memory>
-        requires fits { LeafFits leaf.now }
+        requires fits { LeafFits One leaf.now }
         requires next { leaf.now.slot ≡ self.old.archived.kept.slots }
         ensures bench { AtItsLog self.old.archived.kept (λ log. OnOk result
             (KeepsBench self.new (with_leaf leaf.now (bench_of log self.old)))) }
@@ -64,7 +65,7 @@ impl Sbac {
     pub fn prove(&self, alloc: Global, slot: u64) -> Result<Option<Proof>, Memory>
         ensures proof { AtItsLog self.now.archived.kept
             (λ log. IfOk result (λ found. found ≡ proof_of log slot)) }
-        ensures fits { slot < 2 ^ 62 → IfOk result (λ found. IfSome found ProofFits) }
+        ensures fits { slot < 2 ^ 62 → IfOk result (λ found. IfSome found (ProofFits One)) }
     {
         self.archive.prove(alloc, slot)
     }

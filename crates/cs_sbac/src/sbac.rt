@@ -19,7 +19,7 @@ use cs_check::Archive;
 use cs_node_pool::{Counted, Pool};
 use cs_node_state::Ballot;
 use cs_table::Table;
-use cs_tx::{Digest, Entry, Session, Vote};
+use cs_tx::{Action, Digest, Session, Vote};
 use std::alloc::Global;
 use std::marker::Model;
 
@@ -186,7 +186,7 @@ impl Sbac {
 
     /// The entry that is due: the first decision of a locked session that the votes carry, or else
     /// a vote on the first session that waits.
-    pub fn due(&self, alloc: Global) -> Result<Option<Entry>, Memory>
+    pub fn due(&self, alloc: Global) -> Result<Option<Action>, Memory>
         ensures entry { AtEverySetup self.now.config (λ setup.
             IfOk result (λ entry. entry ≡ due setup self.now.pool)) }
         ensures fits { IfOk result DueFits }

@@ -1,13 +1,13 @@
 //! What the setup of a deployment says of a session.
 ghost use Rattle.std.specs.Prelude.{◌≡◌, true, IfOk, is_none, is_some};
-ghost use Rattle.cs_tx_types.specs.Session.{SessionFits, EntryFits, session_in};
+ghost use Rattle.cs_tx_types.specs.Session.{SessionFits, ActionFits, session_in};
 ghost use Rattle.cs_tx.specs.Uses.{anchor_of, concerned_shards};
 ghost use Rattle.cs_tx.specs.WellFormed.{IsWellFormed, fault_of};
 ghost use Rattle.cs_node_state.specs.Setup.{concerned, is_fit};
 ghost use Rattle.cs_node_pool.specs.Deployed.{AtEverySetup};
 
 use cs_base::{Config, Memory};
-use cs_tx::{Entry, Malformed, Session, anchor, concerned, well_formed};
+use cs_tx::{Action, Malformed, Session, anchor, concerned, well_formed};
 use std::alloc::Global;
 
 /// The shards that a session concerns, in rising order. One that is known to be well formed isn't
@@ -100,10 +100,10 @@ pub fn is_fit_entry(
     alloc: Global,
     config: &Config,
     shard: u16,
-    entry: &Entry,
+    entry: &Action,
     known: bool,
 ) -> Result<bool, Memory>
-    requires fits { EntryFits entry.now }
+    requires fits { ActionFits entry.now }
     requires known { known ≡ true → IsWellFormed config.now (session_in entry.now) }
     ensures fit { AtEverySetup config.now (λ setup.
         IfOk result (λ fit. fit ≡ is_fit setup shard (session_in entry.now))) }
@@ -111,7 +111,7 @@ pub fn is_fit_entry(
         fit ≡ true → is_some (anchor_of config.now (session_in entry.now) shard) ≡ true) }
 {
     match entry {
-        Entry::Prepare(session) => is_fit(alloc, config, shard, session, known),
-        Entry::Decide(_, session) => is_fit(alloc, config, shard, session, known),
+        Action::Prepare(session) => is_fit(alloc, config, shard, session, known),
+        Action::Decide(_, session) => is_fit(alloc, config, shard, session, known),
     }
 }

@@ -35,6 +35,7 @@ whole_of config master liars contracts genesis events =
 
 -- what is known of a schedule that was read
 record IsRead (config : Config) (master : List ℕ) (liars : List NodeId) (contracts : List (List ℕ)) (genesis : List Object) (events : List (ℕ × Event)) : Type 0 where
+  version : config.version ≡ 1
   digest : DigestFits master
   nodes : AllByRecursion (λ name. is_node config name ≡ true) liars
   few_liars : (shard : ℕ) → liars_of liars shard ≤ config.f
@@ -126,7 +127,7 @@ module _ (config : Config) (master : List ℕ) (liars : List NodeId) (contracts 
   reads_all =
       let first : 5 + length liars + length contracts + length genesis + 1 ≡ events_from = omega arith in
       let rest = (codes "run" ∷ []) ∷ (printed_events events ++ (codes "end" ∷ []) ∷ []) in
-      reads_head config master known.digest (last events_from) (liar_lines liars ++ (contract_lines contracts ++ (genesis_lines genesis ++ rest)))
+      reads_head config master known.version known.digest (last events_from) (liar_lines liars ++ (contract_lines contracts ++ (genesis_lines genesis ++ rest)))
       (reads_liars config master liars (last events_from) (contract_lines contracts ++ (genesis_lines genesis ++ rest)) known.apart known.few_liars liars [] 5 refl known.nodes
       (reads_contracts config master liars contracts (last events_from) (genesis_lines genesis ++ rest) known.few_contracts contracts [] false (5 + length liars) refl known.contracts_fit
       (λ told. reads_objects config master liars contracts genesis (last events_from) rest known.few known.differ genesis [] told false (5 + length liars + length contracts) refl known.objects
@@ -145,6 +146,7 @@ printable objects all = recursion_from_All IsPrintable objects all
 known_of : (draft : Draft) → IsSound draft
     → IsRead draft.schedule.config draft.schedule.master draft.schedule.liars draft.schedule.contracts draft.schedule.genesis draft.schedule.events
 known_of draft sound = record {
+  version = sound.playable.version;
   digest = sound.master;
   nodes = recursion_from_All (λ name. is_node draft.schedule.config name ≡ true) draft.schedule.liars sound.playable.liars;
   few_liars = sound.playable.few_liars;

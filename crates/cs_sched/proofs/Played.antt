@@ -23,7 +23,7 @@ use Rattle.cs_sched.specs.Playable.{IsPlayable}
 use Rattle.cs_text.specs.Reading.{GivesText}
 use Rattle.cs_text.proofs.Steps.{step_ok, change_ok, ok_same, when_ok, unless_ok, either_ok}
 use Rattle.cs_sched.proofs.Sound.{IsSound, has_run, has_master, empty_sound, at_stage-sound, with_config-sound, with_master-sound, with_event-sound, with_contract-sound, with_genesis-sound, with_liar-sound}
-use Rattle.cs_sched.proofs.Said.{contract_said-ok, object_said-ok}
+use Rattle.cs_sched.proofs.Said.{contract_said-ok, object_said-ok, shards_first, faulty_first, dummies_first}
 use Rattle.cs_sched.proofs.Liars.{liar_said-ok}
 use Rattle.cs_sched.proofs.Told.{event_said-ok}
 
@@ -31,17 +31,17 @@ module _ (draft next : Draft) (fields : List (List ℕ)) (sound : IsSound draft)
   shards_sound : draft.schedule.liars ≡ [] → draft.schedule.events ≡ [] → shards_line draft fields ≡ Ok next → IsSound next
   shards_sound trusted none is =
       let (config, said, moved) = change_ok (shards_said draft.schedule.config fields) (λ config. with_config draft stage.Faulty config) next is in
-      subst IsSound moved (with_config-sound draft stage.Faulty config sound trusted none)
+      subst IsSound moved (with_config-sound draft stage.Faulty config (shards_first draft.schedule.config config fields said) sound trusted none)
 
   faulty_sound : draft.schedule.liars ≡ [] → draft.schedule.events ≡ [] → faulty_line draft fields ≡ Ok next → IsSound next
   faulty_sound trusted none is =
       let (config, said, moved) = change_ok (faulty_said draft.schedule.config fields) (λ config. with_config draft stage.Dummies config) next is in
-      subst IsSound moved (with_config-sound draft stage.Dummies config sound trusted none)
+      subst IsSound moved (with_config-sound draft stage.Dummies config (faulty_first draft.schedule.config config fields said) sound trusted none)
 
   dummies_sound : draft.schedule.liars ≡ [] → draft.schedule.events ≡ [] → dummies_line draft fields ≡ Ok next → IsSound next
   dummies_sound trusted none is =
       let (config, said, moved) = change_ok (dummies_said draft.schedule.config fields) (λ config. with_config draft stage.Master config) next is in
-      subst IsSound moved (with_config-sound draft stage.Master config sound trusted none)
+      subst IsSound moved (with_config-sound draft stage.Master config (dummies_first draft.schedule.config config fields said) sound trusted none)
 
   master_sound : draft.schedule.events ≡ [] → master_line draft fields ≡ Ok next → IsSound next
   master_sound none is =

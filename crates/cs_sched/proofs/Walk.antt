@@ -177,9 +177,9 @@ module _ (config : Config) (master : List ℕ) (liars : List NodeId) (contracts 
         (λ any. subst (λ n. read_fields schedule_form (made (genesis_stage told any) config master liars contracts genesis []) n rest ≡ Ok last) next (more any)))
 
 -- the four lines before liars
-pub reads_head : (config : Config) (master : List ℕ) → DigestFits master → (last : Draft) (rest : List (List (List ℕ))) → read_fields schedule_form (made stage.Liars config master [] [] [] []) 5 rest ≡ Ok last
+pub reads_head : (config : Config) (master : List ℕ) → config.version ≡ 1 → DigestFits master → (last : Draft) (rest : List (List (List ℕ))) → read_fields schedule_form (made stage.Liars config master [] [] [] []) 5 rest ≡ Ok last
     → read_fields schedule_form empty_draft 1 (number_words (codes "shards") config.shards ∷ number_words (codes "faulty") config.f ∷ number_words (codes "dummies") config.dummies ∷ bytes_words (codes "master") master ∷ rest) ≡ Ok last
-reads_head config master fits last rest more =
+reads_head config master one fits last rest more =
     let zeros : List ℕ = replicate 32 0 in
     let least = config_of 1 0 0 in
     let first = config_of config.shards 0 0 in
@@ -196,7 +196,7 @@ reads_head config master fits last rest more =
     let trusted : config_in_range (configured first.shards config.f 0) ≡ Ok second =
     ap (λ n. config_in_range (configured n config.f 0)) same ∙ ap (λ field. config_in_range (unless_out second field)) out_f in
     let whole : config_in_range (configured second.shards second.f config.dummies) ≡ Ok config =
-    ap (λ n. config_in_range (configured n second.f config.dummies)) same ∙ ap (λ n. config_in_range (configured config.shards n config.dummies)) same_f ∙ ap config_in_range (configured-config config) in
+    ap (λ n. config_in_range (configured n second.f config.dummies)) same ∙ ap (λ n. config_in_range (configured config.shards n config.dummies)) same_f ∙ ap config_in_range (configured-config config one) in
     let shards : line_step schedule_form 1 empty_draft (number_words (codes "shards") config.shards) ≡ Ok (made stage.Faulty first zeros [] [] [] []) =
     rw (shards_back least first config.shards (omega arith) sharded) refl in
     let faulty : line_step schedule_form 2 (made stage.Faulty first zeros [] [] [] []) (number_words (codes "faulty") config.f) ≡ Ok (made stage.Dummies second zeros [] [] [] []) =

@@ -55,12 +55,13 @@ pub record IsContractText (text : List ℕ) : Type 0 where
   pub short : length text ≤ MOST_TEXT
   pub accepted : is_refused text ≡ false
 
--- Up to 16 shards of 3f+1 nodes each make up the deployment, with f up to 5. At most f nodes of a shard are liars, and
+-- Up to 16 shards of 3f+1 nodes each make up the deployment, of version 1, with f up to 5. At most f nodes of a shard are liars, and
 -- none is one twice. The contracts are accepted. The objects have encodings, and no two of them one key.
 pub record IsPlayable (schedule : Schedule) : Type 0 where
   pub some_shard : 0 < schedule.config.shards
   pub few_shards : schedule.config.shards ≤ MOST_SHARDS
   pub few_faulty : schedule.config.f ≤ MOST_LIARS
+  pub version : schedule.config.version ≡ 1
   pub liars : All (λ name. is_node schedule.config name ≡ true) schedule.liars
   pub few_liars : (shard : ℕ) → liars_of schedule.liars shard ≤ schedule.config.f
   pub liars_differ : AllPairs (λ a b. a ≢ b) schedule.liars

@@ -60,6 +60,7 @@ pub fn least_config() -> Config
         shards: 1,
         f: 0,
         dummies: 0,
+        version: 1,
     }
 }
 

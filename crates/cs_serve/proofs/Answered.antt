@@ -11,7 +11,7 @@ use Rattle.cs_node_rules.specs.Site.{Input, Site, View, signs_of}
 use Rattle.cs_node_rules.specs.Trail.{event_marks}
 use Rattle.cs_io.specs.Link.{Offers}
 use Rattle.cs_io.specs.Outside.{LinkTold, Beside}
-use Rattle.cs_node.specs.declared.nodes.Core.{Core}
+use Rattle.cs_node.specs.declared.node_core.Core.{Core}
 use Rattle.cs_node.specs.declared.outs.Made.{Made}
 use Rattle.cs_node.specs.Cores.{CoreStandsFor}
 use Rattle.cs_node.specs.Steps.{Event}

@@ -55,11 +55,11 @@ fn note_text(alloc: Global, me: NodeId, note: &Note) -> Result<String, Memory>
         Note::Viewed { .. } => Ok(String::new(alloc)),
         Note::Executed {
             slot,
-            entry,
+            action,
             effect,
             ..
         } => {
-            let digest = digest_in(alloc, entry)?;
+            let digest = digest_in(alloc, action)?;
             slot_line(alloc, me, *slot, &digest, *effect)
         }
         Note::Headed { number, head } => head_line(alloc, me, *number, head),

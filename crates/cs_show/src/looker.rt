@@ -2,6 +2,7 @@
 ghost use Rattle.std.specs.Prelude.{◌≡◌, List, ◌∷◌, Some, None, replicate, OnOk, IfOk};
 ghost use Rattle.cs_base.specs.declared.key.Key.TheVariants as key;
 ghost use Rattle.cs_io.specs.declared.link.MemInput.TheVariants as came;
+ghost use Rattle.cs_base.specs.declared.version.Version.{Version};
 ghost use Rattle.cs_wire_message.specs.Message.{MessageFits};
 ghost use Rattle.cs_wire_message.specs.declared.message.Message.TheVariants as message;
 ghost use Rattle.cs_client.specs.Inputs.{ClientInput, heard};
@@ -45,7 +46,7 @@ fn no_words(alloc: Global, members: u16) -> Result<Vec<Option<Text>>, Memory>
 // The message that asks for an object.
 fn ask_object(name: Digest) -> Message
     ensures asks { result ≡ message.Ask (Some (key.Object name)) }
-    ensures fits { MessageFits result }
+    ensures fits { (version : Version) → MessageFits version result }
 {
     Message::Ask(Some(Key::Object(name)))
 }
@@ -53,7 +54,7 @@ fn ask_object(name: Digest) -> Message
 // The message that asks for a key.
 fn ask(key: &Key) -> Message
     ensures asks { result ≡ message.Ask (Some key.now) }
-    ensures fits { MessageFits result }
+    ensures fits { (version : Version) → MessageFits version result }
 {
     match key {
         Key::Object(name) => ask_object(*name),
@@ -88,7 +89,7 @@ fn take(
     message: &Message,
 ) -> Result<(), Memory>
     requires shard { shard ≡ shard_asked lookup.now }
-    requires message { MessageFits message.now }
+    requires message { MessageFits lookup.now.keys.version message.now }
     ensures { (past : List ClientInput) (input : ClientInput) →
         heard lookup.now.keys input ≡ Some (from, message.now) →
         words.old.items ≡ words_of lookup.now past →

@@ -1,5 +1,6 @@
 //! What nodes say of a key, and what is believed of it.
 ghost use Rattle.std.specs.Prelude.{◌≡◌, ◌==◌, Some, slice_set, option_copied, IfOk, if◌then◌else◌};
+ghost use Rattle.cs_base.specs.declared.version.Version.{Version};
 ghost use Rattle.cs_wire_message.specs.Message.{MessageFits};
 ghost use Rattle.cs_show.specs.Words.{same_key, line_in, is_word, sayers, first_said};
 
@@ -26,7 +27,7 @@ fn same_key(a: &Key, b: &Key) -> bool
 
 /// The line of what a message tells of the key, if anything.
 pub fn line_in(alloc: Global, key: &Key, message: &Message) -> Result<Option<Text>, Memory>
-    requires { MessageFits message.now }
+    requires { (version : Version) × MessageFits version message.now }
     ensures { IfOk result (λ line. line ≡ line_in key.now message.now) }
 {
     match message {

@@ -186,14 +186,9 @@ pub(crate) fn sealed(
     word: Word,
 ) -> Result<Vec<u8>, Fail> {
     let message = message(alloc, case, word)?;
-    assert!(rt; message.fits());
+    let keys = keys_of(alloc, &case.config, from)?;
+    assert!(rt; message.fits(keys.version()));
     let mut bytes = Vec::new(alloc);
-    seal(
-        alloc,
-        &keys_of(alloc, &case.config, from)?,
-        CLIENT,
-        &message,
-        &mut bytes,
-    )?;
+    seal(alloc, &keys, CLIENT, &message, &mut bytes)?;
     Ok(bytes)
 }

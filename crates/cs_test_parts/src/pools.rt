@@ -4,7 +4,7 @@ use cs_base::{Config, Memory, NodeId, Sequence};
 use cs_node_pool::Pool;
 use cs_node_state::{Ballot, Pooled};
 use cs_test_samples::{Draws, Transfer, coin};
-use cs_tx::{Digest, Encoded, Entry, Session, Vote, concerned, session_digest, well_formed};
+use cs_tx::{Action, Digest, Encoded, Session, Vote, concerned, session_digest, well_formed};
 use std::alloc::Global;
 use std::process::Abort;
 use std::test::Fail;
@@ -110,13 +110,13 @@ fn leave(
     Ok(())
 }
 
-fn shown(entry: Entry) -> Due {
+fn shown(entry: Action) -> Due {
     match entry {
-        Entry::Prepare(session) => Due {
+        Action::Prepare(session) => Due {
             decision: None,
             number: session.number,
         },
-        Entry::Decide(vote, session) => Due {
+        Action::Decide(vote, session) => Due {
             decision: Some(vote),
             number: session.number,
         },

@@ -6,6 +6,7 @@ use Rattle.std.proofs.lemmas.Bool.{cases_Bool, and_parts, and_from, eqb-true, eq
 use Rattle.cs_tx_types.specs.declared.leaf.Leaf.{Leaf}
 use Rattle.cs_tx_types.specs.declared.checkpoint.Checkpoint.{Checkpoint}
 use Rattle.cs_tx_types.specs.declared.proof.Proof.{Proof}
+use Rattle.cs_base.specs.declared.version.Version.TheVariants.{One}
 use Rattle.cs_tx_types.specs.Log.{leaf_encoding, LeafFits, ProofFits}
 use Rattle.cs_merkle.specs.Path.{path_length, root_by, ShowsLeaf}
 use Rattle.cs_check_rules.specs.Chain.{head_of}
@@ -17,7 +18,7 @@ use Rattle.cs_verify.specs.declared.judging.Verdict.TheVariants.{Shown, NotShown
 use Rattle.cs_verify.specs.Verdicts.{leads, is_shown, verdict_on, ShowsExactly, IsCovered, VerdictTells}
 
 test_leads : (p : Proof) → leads p ≡ true →
-    ShowsLeaf p.checkpoint.leaf_root 16 p.place (leaf_encoding p.leaf) p.path
+    ShowsLeaf p.checkpoint.leaf_root 16 p.place (leaf_encoding One p.leaf) p.path
 test_leads p is =
     let first = and_parts _ _ is in
     let second = and_parts _ _ first.1 in
@@ -28,7 +29,7 @@ test_leads p is =
     }
 
 leads_test : (p : Proof) →
-    ShowsLeaf p.checkpoint.leaf_root 16 p.place (leaf_encoding p.leaf) p.path → leads p ≡ true
+    ShowsLeaf p.checkpoint.leaf_root 16 p.place (leaf_encoding One p.leaf) p.path → leads p ≡ true
 leads_test p shows =
     and_from _ _ (lt-ltb p.place 16 shows.within)
     (and_from _ _ (eq-eqb (length p.path) (path_length 16 p.place) shows.long)
@@ -84,10 +85,10 @@ pub each_exactly : {E : Type 0} (r : Result Verdict E) (c d : Claim) → c ≡ d
 each_exactly (Ok verdict) c d same is = shows_exactly d verdict (is ∙ ap verdict_on same)
 each_exactly (Err e) c d same is = tt
 
-pub shown_tells : (head : List ℕ) (p : Proof) → ProofFits p → Shows head p → VerdictTells head (Shown p)
+pub shown_tells : (head : List ℕ) (p : Proof) → ProofFits One p → Shows head p → VerdictTells head (Shown p)
 shown_tells head p fits shows c leaves same all over apart =
     let here : Shows (head_of c) p = subst (λ (h : List ℕ). Shows h p) (sym same) shows in
     record {
-      checkpoint = (covered c (map leaf_encoding leaves) p over fits apart here).checkpoint;
+      checkpoint = (covered c (map (leaf_encoding One) leaves) p over fits apart here).checkpoint;
       leaf = covered_leaf c leaves p all over fits apart here;
     }

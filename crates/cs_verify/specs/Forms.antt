@@ -5,6 +5,7 @@ use Rattle.std.specs.Int.{w32, from_be_bytes}
 use Rattle.cs_base.specs.declared.limits.TheConstants.{LEAST_DATAGRAM, MOST_DATAGRAM, MOST_BODY}
 use Rattle.cs_base.specs.Fields.{whole_at}
 use Rattle.cs_tx_types.specs.declared.proof.Proof.{Proof}
+use Rattle.cs_base.specs.declared.version.Version.TheVariants.{One}
 use Rattle.cs_tx_types.specs.Log.{proof_at}
 use Rattle.cs_wire_message.specs.declared.kinds.TheConstants.{PROOF}
 use Rattle.cs_wire.specs.declared.head.TheConstants.{MAGIC}
@@ -35,7 +36,7 @@ proof_body bytes = if is_formed bytes then Some (body_in bytes) else None
 
 -- the proof of which these bytes are the encoding
 abbrev pub encoded_proof : List ℕ → Result Proof Cause
-encoded_proof bytes = ok_or (whole_at proof_at bytes) cause.Object
+encoded_proof bytes = ok_or (whole_at (proof_at One) bytes) cause.Object
 
 -- the body of a Proof in hex, of at most so many bytes as a body has
 abbrev pub proof_in : List ℕ → Result Proof Cause

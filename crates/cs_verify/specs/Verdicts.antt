@@ -5,13 +5,14 @@ use Rattle.cs_base.specs.Answers.{Answer}
 use Rattle.cs_base.specs.Codes.{bytes_text}
 use Rattle.cs_tx_types.specs.declared.limits.TheConstants.{COVERED}
 use Rattle.cs_tx_types.specs.declared.vote.Vote.TheVariants as vote
-use Rattle.cs_tx_types.specs.declared.entry.Entry.{Entry}
-use Rattle.cs_tx_types.specs.declared.entry.Entry.TheVariants.{Prepare, Decide}
+use Rattle.cs_tx_types.specs.declared.action.Action.{Action}
+use Rattle.cs_tx_types.specs.declared.action.Action.TheVariants.{Prepare, Decide}
 use Rattle.cs_tx_types.specs.declared.effect.Effect.{Effect}
 use Rattle.cs_tx_types.specs.declared.effect.Effect.TheVariants.{Voted, Accepted, Aborted, Skipped, Void}
 use Rattle.cs_tx_types.specs.declared.leaf.Leaf.{Leaf}
 use Rattle.cs_tx_types.specs.declared.checkpoint.Checkpoint.{Checkpoint}
 use Rattle.cs_tx_types.specs.declared.proof.Proof.{Proof}
+use Rattle.cs_base.specs.declared.version.Version.TheVariants.{One}
 use Rattle.cs_tx_types.specs.Log.{leaf_encoding, LeafFits, ProofFits}
 use Rattle.cs_tx.specs.Digest.{digest_of_session}
 use Rattle.cs_check_rules.specs.Chain.{head_of}
@@ -30,7 +31,7 @@ abbrev pub leads : Proof → Bool
 leads p =
     nat_lt p.place COVERED
     && (length p.path == path_length COVERED p.place
-    && bytes_eq (root_by COVERED p.place (leaf_encoding p.leaf) (reverse p.path)) p.checkpoint.leaf_root)
+    && bytes_eq (root_by COVERED p.place (leaf_encoding One p.leaf) (reverse p.path)) p.checkpoint.leaf_root)
 
 -- and the checkpoint has this head, and the leaf is of the slot at its place
 abbrev pub is_shown : List ℕ → Proof → Bool
@@ -47,7 +48,7 @@ claim_verdict (Err refusal) = Refused refusal
 
 -- a proof that is shown is within all limits
 abbrev pub VerdictFits : Verdict → Type 0
-VerdictFits (Shown proof) = ProofFits proof
+VerdictFits (Shown proof) = ProofFits One proof
 VerdictFits NotShown = Unit {0}
 VerdictFits (Refused refusal) = Unit {0}
 
@@ -63,14 +64,14 @@ pub record IsCovered (c : Checkpoint) (leaves : List Leaf) (p : Proof) : Type 0 
 abbrev pub VerdictTells : List ℕ → Verdict → Type 0
 VerdictTells head (Shown p) =
     (c : Checkpoint) (leaves : List Leaf) → head_of c ≡ head →
-    All LeafFits leaves → CoversLeaves c (map leaf_encoding leaves) →
-    NoProofCollision c (map leaf_encoding leaves) p → IsCovered c leaves p
+    All (LeafFits One) leaves → CoversLeaves c (map (leaf_encoding One) leaves) →
+    NoProofCollision c (map (leaf_encoding One) leaves) p → IsCovered c leaves p
 VerdictTells head NotShown = Unit {0}
 VerdictTells head (Refused refusal) = Unit {0}
 
 -- ---- what is printed
 
-abbrev pub entry_words : Entry → List ℕ
+abbrev pub entry_words : Action → List ℕ
 entry_words (Prepare x) = codes "prepare"
 entry_words (Decide vote.Commit x) = codes "decide commit"
 entry_words (Decide vote.Abort x) = codes "decide abort"
@@ -84,14 +85,14 @@ result_word Skipped = codes "skipped"
 result_word Void = codes "void"
 
 -- shard and slot, the entry with the digest of its session, and what its execution came to
-abbrev pub shown_line : ℕ → ℕ → Entry → Effect → List ℕ
+abbrev pub shown_line : ℕ → ℕ → Action → Effect → List ℕ
 shown_line shard slot entry effect =
     codes "shown " ++ (decimal shard ++ (codes " " ++ (decimal slot ++ (codes " " ++ (entry_words entry
     ++ (codes " " ++ (bytes_text (digest_of_session (session_in entry))
     ++ (codes " " ++ (result_word effect ++ codes "\n")))))))))
 
 abbrev pub claim_text : Verdict → List ℕ
-claim_text (Shown p) = shown_line p.checkpoint.shard p.leaf.slot p.leaf.entry p.leaf.result
+claim_text (Shown p) = shown_line p.checkpoint.shard p.leaf.slot p.leaf.action p.leaf.result
 claim_text NotShown = codes "not shown\n"
 claim_text (Refused refusal) = refusal_text refusal.line refusal.cause
 

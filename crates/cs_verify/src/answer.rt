@@ -2,7 +2,8 @@
 ghost use Rattle.std.specs.Prelude.{◌≡◌, Some, IfOk, string_bytes};
 ghost use Rattle.cs_base.specs.Codes.{bytes_text};
 ghost use Rattle.cs_tx.specs.Digest.{digest_of_session};
-ghost use Rattle.cs_tx_types.specs.Session.{EntryFits, session_in};
+ghost use Rattle.cs_tx_types.specs.Session.{ActionFits, session_in};
+ghost use Rattle.cs_base.specs.declared.version.Version.TheVariants.{One};
 ghost use Rattle.cs_tx_types.specs.Log.{ProofFits};
 ghost use Rattle.cs_verify.specs.Verdicts.{VerdictFits, entry_words, result_word, shown_line as line_of, claim_text as text_of};
 
@@ -10,7 +11,7 @@ use crate::judging::Verdict;
 use cs_base::{Memory, print_bytes};
 use cs_check_rules::Proof;
 use cs_text::refusal_line;
-use cs_tx::{Effect, Entry, Vote, session_digest};
+use cs_tx::{Action, Effect, Vote, session_digest};
 use std::alloc::Global;
 
 /// The line of a verdict, with its LF.
@@ -26,20 +27,20 @@ pub fn verdict_text(alloc: Global, verdict: &Verdict) -> Result<String, Memory>
 }
 
 fn shown_line(alloc: Global, proof: &Proof) -> Result<String, Memory>
-    requires { ProofFits proof.now }
+    requires { ProofFits One proof.now }
     ensures { let p = proof.now in IfOk result (λ text. string_bytes text
-        ≡ line_of p.checkpoint.shard p.leaf.slot p.leaf.entry p.leaf.result) }
+        ≡ line_of p.checkpoint.shard p.leaf.slot p.leaf.action p.leaf.result) }
 {
     let shard = proof.checkpoint.shard;
     let slot = proof.leaf.slot;
-    let entry = entry_words(&proof.leaf.entry);
-    let digest = digest_text(alloc, &proof.leaf.entry)?;
+    let entry = entry_words(&proof.leaf.action);
+    let digest = digest_text(alloc, &proof.leaf.action)?;
     let result = result_word(proof.leaf.result);
     Ok(format!(in alloc; "shown {shard} {slot} {entry} {digest} {result}\n")?)
 }
 
-fn digest_text(alloc: Global, entry: &Entry) -> Result<String, Memory>
-    requires { EntryFits entry.now }
+fn digest_text(alloc: Global, entry: &Action) -> Result<String, Memory>
+    requires { ActionFits entry.now }
     ensures { IfOk result (λ text.
         string_bytes text ≡ bytes_text (digest_of_session (session_in entry.now))) }
 {
@@ -47,13 +48,13 @@ fn digest_text(alloc: Global, entry: &Entry) -> Result<String, Memory>
     print_bytes(alloc, digest.as_slice())
 }
 
-fn entry_words(entry: &Entry) -> &'static str
+fn entry_words(entry: &Action) -> &'static str
     ensures { result.now ≡ entry_words entry.now }
 {
     match entry {
-        Entry::Prepare(_) => "prepare",
-        Entry::Decide(Vote::Commit, _) => "decide commit",
-        Entry::Decide(Vote::Abort, _) => "decide abort",
+        Action::Prepare(_) => "prepare",
+        Action::Decide(Vote::Commit, _) => "decide commit",
+        Action::Decide(Vote::Abort, _) => "decide abort",
     }
 }
 

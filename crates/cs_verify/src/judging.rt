@@ -1,6 +1,7 @@
 //! Whether the proof that is handed in shows its leaf.
 ghost use Rattle.std.specs.Prelude.{◌≡◌, Ok, IfOk};
 ghost use Rattle.cs_base.specs.declared.limits.TheConstants.{MOST_SCHEDULE};
+ghost use Rattle.cs_base.specs.declared.version.Version.TheVariants.{One};
 ghost use Rattle.cs_tx_types.specs.Log.{ProofFits};
 ghost use Rattle.cs_verify.specs.declared.claim.Claim.{Claim as AnyClaim};
 ghost use Rattle.cs_verify.specs.Text.{claim_of};
@@ -57,7 +58,7 @@ pub fn judge(alloc: Global, text: &[u8]) -> Result<Verdict, Memory>
 }
 
 fn judge_claim(alloc: Global, claim: Claim) -> Result<Verdict, Memory>
-    requires { ProofFits claim.proof }
+    requires { ProofFits One claim.proof }
     ensures verdict { IfOk result (λ verdict. verdict ≡ verdict_on claim) }
     ensures fits { IfOk result VerdictFits }
     ensures tells { IfOk result (VerdictTells claim.head) }

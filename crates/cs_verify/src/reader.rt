@@ -1,6 +1,7 @@
 //! Claims, read of a text.
 ghost use Rattle.std.specs.Prelude.{IfOk};
 ghost use Rattle.cs_base.specs.declared.limits.TheConstants.{MOST_SCHEDULE};
+ghost use Rattle.cs_base.specs.declared.version.Version.TheVariants.{One};
 ghost use Rattle.cs_tx_types.specs.Log.{ProofFits};
 ghost use Rattle.cs_text.specs.Reading.{GivesText};
 ghost use Rattle.cs_verify.specs.Text.{claim_of};
@@ -16,7 +17,7 @@ use std::alloc::Global;
 #[tactic(auto, unfolding(crate::specs::Text::claim_of))]
 pub(crate) fn parse_claim(alloc: Global, text: &[u8]) -> Result<Claim, TextError>
     ensures given { GivesText result (claim_of MOST_SCHEDULE text.now) }
-    ensures fits { IfOk result (λ claim. ProofFits claim.proof) }
+    ensures fits { IfOk result (λ claim. ProofFits One claim.proof) }
 {
     parse_text::<Draft>(alloc, MOST_SCHEDULE, text)
 }

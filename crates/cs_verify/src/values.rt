@@ -6,14 +6,14 @@ use crate::datagram::proof_body;
 use cs_base::{MOST_BODY, MOST_DATAGRAM};
 use cs_check_rules::Proof;
 use cs_text::{Cause, LineError, read_bytes_within};
-use cs_tx::{Encoded, FormError};
+use cs_tx::{FormError, Versioned};
 use std::alloc::Global;
 
 // The proof of which these bytes are the encoding.
 fn decode_proof(alloc: Global, bytes: &[u8]) -> Result<Proof, LineError>
     ensures { GivesStep result (encoded_proof bytes.now) }
 {
-    match Proof::decode(alloc, bytes) {
+    match Proof::decode(alloc, bytes, 1) {
         Ok(proof) => Ok(proof),
         Err(FormError::Memory) => Err(LineError::Memory),
         Err(FormError::BadForm) => Err(LineError::Bad(Cause::Object)),

@@ -13,7 +13,8 @@ use Rattle.cs_order.specs.Runs.{deeds_of}
 use Rattle.cs_ledger.specs.Table.{Effect}
 use Rattle.cs_node_rules.specs.Signs.{Sign, Dropped, Took, Entered, Viewed, Did, Headed, Kept, Sent}
 use Rattle.cs_node_rules.specs.Site.{Mark, In, Ordered, Plain, Site, signs_of}
-use Rattle.cs_node_state.specs.Setup.{Action, actions_of}
+use Rattle.cs_tx_types.specs.declared.action.Action.{Action}
+use Rattle.cs_node_state.specs.Setup.{actions_of}
 use Rattle.cs_node_law.specs.Made.{view_at, log_in, actions_in, NodeExecutes, AllMade}
 use Rattle.cs_world_law.specs.Worlds.{is_honest}
 use Rattle.cs_world_law.specs.Steps.{Run}

@@ -6,8 +6,8 @@ use Rattle.cs_base.specs.declared.node_id.NodeId.{NodeId}
 use Rattle.cs_tx_types.specs.declared.session.Session.{Session}
 use Rattle.cs_tx_types.specs.declared.vote.Vote as Tx
 use Rattle.cs_tx_types.specs.declared.vote.Vote.TheVariants as tx
-use Rattle.cs_tx_types.specs.declared.entry.Entry.{Entry}
-use Rattle.cs_tx_types.specs.declared.entry.Entry.TheVariants.{Prepare, Decide}
+use Rattle.cs_tx_types.specs.declared.action.Action.{Action}
+use Rattle.cs_tx_types.specs.declared.action.Action.TheVariants.{Prepare, Decide}
 use Rattle.cs_order.specs.declared.proposed.Proposed.{Proposed}
 use Rattle.cs_order.specs.Deeds.{Deed, Took_in, Advanced, Echoed, Proposing, Ticked, Resent, Replied, Cut, Member, chosen_in}
 use Rattle.cs_order.specs.Runs.{member_of}
@@ -19,7 +19,7 @@ use Rattle.cs_ledger.specs.Table as Shard
 use Rattle.cs_ledger.specs.Table.{Effect}
 use Rattle.cs_ledger.specs.ShardWorld.{Step, shard_votes, IsAllowed, AllAllowed, sessions}
 use Rattle.cs_node_state.specs.declared.pooled.Pooled.{Pooled}
-use Rattle.cs_node_state.specs.Setup.{Action, actions_of, Setup, digest_of, is_concerned_shard, concerned, is_fit, is_session_approved, entry_of}
+use Rattle.cs_node_state.specs.Setup.{actions_of, Setup, digest_of, is_concerned_shard, concerned, is_fit, is_session_approved, entry_of}
 use Rattle.cs_tx_types.specs.Session.{session_in}
 use Rattle.cs_node_state.specs.Evidence.{has_support, is_decided}
 use Rattle.cs_node_state.specs.Pool.{found}
@@ -44,7 +44,7 @@ use Rattle.cs_world_law.proofs.Firsts.{given-voted}
 use Rattle.cs_world_law.proofs.Ballots.{IsGiver, giver-later, giver}
 use Rattle.cs_world_law.proofs.Counting.{any-in, all-in, in-concerned, concerned-in, among-item, item-among, votes-all, votes-one}
 
-pub seen-session : (setup : Setup) (entry : Entry) → Shard.session_of (entry_of setup entry) ≡ setup.session_of (session_in entry)
+pub seen-session : (setup : Setup) (entry : Action) → Shard.session_of (entry_of setup entry) ≡ setup.session_of (session_in entry)
 seen-session setup (Prepare x) = refl
 seen-session setup (Decide vote x) = refl
 
@@ -67,10 +67,10 @@ module _ {M : Type 0} (site : Site M) (sound : IsSoundSite site) (known : Known)
       (is_concerned_shard site.setup x shard ≡ true) × ((t : ℕ) × (is_concerned_shard site.setup x t ≡ true) × IsGiver site sound known story (digest_of site.setup x) Shard.Abort t)
 
   -- so it is of each action of an entry
-  abbrev AllBehind : List (Moment M) → ℕ → Entry → Type 0
+  abbrev AllBehind : List (Moment M) → ℕ → Action → Type 0
   AllBehind story shard entry = (action : Action) → IsIn action (actions_of entry) → IsBehind story shard action
 
-  behind-later : (m : Moment M) (past : List (Moment M)) (shard : ℕ) (entry : Entry) → IsBehind past shard entry → IsBehind (m ∷ past) shard entry
+  behind-later : (m : Moment M) (past : List (Moment M)) (shard : ℕ) (entry : Action) → IsBehind past shard entry → IsBehind (m ∷ past) shard entry
   behind-later m past shard (Prepare x) b = b
   behind-later m past shard (Decide tx.Commit x) b = (b.0, λ t fits c. giver-later site sound known m past (digest_of site.setup x) Shard.Commit t (b.1 t fits c))
   behind-later m past shard (Decide tx.Abort x) b = (b.0, (b.1.0, b.1.1, giver-later site sound known m past (digest_of site.setup x) Shard.Abort b.1.0 b.1.2))
@@ -110,7 +110,7 @@ module _ {M : Type 0} (site : Site M) (sound : IsSoundSite site) (known : Known)
           let r = found-in (digest_of site.setup x) (view_at site j (trail_at j story)).bench.pool p is in
           decision-behind story j r.0 vote x story_is (sourced story j r.0 story_is r.1) (sym r.2) here (subst (λ (q : Pooled). is_decided site.setup.f (concerned site.setup x) vote q.ballots ≡ true) (sym r.3) h)
 
-  admits-behind : (story : List (Moment M)) (j : NodeId) (entry : Entry) → Story site known story → admits site.setup j.shard (view_at site j (trail_at j story)).bench.pool entry ≡ true → AllBehind story j.shard entry
+  admits-behind : (story : List (Moment M)) (j : NodeId) (entry : Action) → Story site known story → admits site.setup j.shard (view_at site j (trail_at j story)).bench.pool entry ≡ true → AllBehind story j.shard entry
   admits-behind story j entry story_is e action i =
       action-behind story j action story_is (all-in (admits_action site.setup j.shard (view_at site j (trail_at j story)).bench.pool) (actions_of entry) e action i)
 
@@ -118,7 +118,7 @@ module _ {M : Type 0} (site : Site M) (sound : IsSoundSite site) (known : Known)
   abbrev AllApproved : List (Moment M) → Type 0
   AllApproved story = (i : NodeId) (x : Session) → is_honest site i ≡ true → HasVotedOn x (signs_of (trail_at i story)) → is_session_approved site.setup x ≡ true
 
-  due-behind : (story : List (Moment M)) (j : NodeId) (entry : Entry) → Story site known story → AllApproved story → is_honest site j ≡ true → IsDueFrom site.setup (view_at site j (trail_at j story)).bench.pool entry → IsBehind story j.shard entry
+  due-behind : (story : List (Moment M)) (j : NodeId) (entry : Action) → Story site known story → AllApproved story → is_honest site j ≡ true → IsDueFrom site.setup (view_at site j (trail_at j story)).bench.pool entry → IsBehind story j.shard entry
   due-behind story j entry story_is approved honest d =
       let e = d.0 in
       let x = e.1.session in
@@ -192,7 +192,7 @@ module _ {M : Type 0} (site : Site M) (sound : IsSoundSite site) (known : Known)
   module _ (lawful : AreLawful site known) where
     -- ---- executions
 
-    executed-behind : (node : NodeId) (slot place : ℕ) (entry : Entry) (effect : Effect) (past : List (Moment M)) → Story site known (record { node = node; mark = Plain (Did slot place entry effect) } ∷ past) → AllApproved past → IsBehind past node.shard entry
+    executed-behind : (node : NodeId) (slot place : ℕ) (entry : Action) (effect : Effect) (past : List (Moment M)) → Story site known (record { node = node; mark = Plain (Did slot place entry effect) } ∷ past) → AllApproved past → IsBehind past node.shard entry
     executed-behind node slot place entry effect past story approved =
         let made = story.0.made in
         let law = lawful past node.shard (sound.shard node story.0.honest) story.1 in
@@ -228,7 +228,7 @@ module _ {M : Type 0} (site : Site M) (sound : IsSoundSite site) (known : Known)
     abbrev pub Steps : List (Moment M) → List Step
     Steps story = steps_of site.setup (story_firsts story)
 
-    behind-allowed : (story : List (Moment M)) (shard : ℕ) (entry : Entry) → Story site known story → IsBehind story shard entry → IsAllowed site.setup.rules (Steps story) shard (entry_of site.setup entry)
+    behind-allowed : (story : List (Moment M)) (shard : ℕ) (entry : Action) → Story site known story → IsBehind story shard entry → IsAllowed site.setup.rules (Steps story) shard (entry_of site.setup entry)
     behind-allowed story shard (Prepare x) story_is b = let f = and_parts _ _ b.0 in (f.0, f.1, b.1)
     behind-allowed story shard (Decide tx.Commit x) story_is b =
         let items = all_items (site.setup.session_of x).transaction in (
@@ -251,7 +251,7 @@ module _ {M : Type 0} (site : Site M) (sound : IsSoundSite site) (known : Known)
         )
 
     -- what an honest node executes is allowed
-    pub executed-allowed : (node : NodeId) (slot place : ℕ) (entry : Entry) (effect : Effect) (past : List (Moment M)) → Story site known (record { node = node; mark = Plain (Did slot place entry effect) } ∷ past)
+    pub executed-allowed : (node : NodeId) (slot place : ℕ) (entry : Action) (effect : Effect) (past : List (Moment M)) → Story site known (record { node = node; mark = Plain (Did slot place entry effect) } ∷ past)
         → IsAllowed site.setup.rules (Steps past) node.shard (entry_of site.setup entry)
     executed-allowed node slot place entry effect past story = behind-allowed past node.shard entry story.1 (executed-behind node slot place entry effect past story (all-approved past story.1))
 

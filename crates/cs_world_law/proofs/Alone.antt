@@ -2,7 +2,7 @@
 use Rattle.std.proofs.Common.{◌≡◌, ℕ, suc, ◌+◌, ◌*◌, ◌<◌, ◌==◌, Bool, true, false, if◌then◌else◌, List, [], ◌∷◌, length, refl, sym, ap, ◌∙◌, subst, arith}
 use Rattle.std.proofs.lemmas.Bool.{cond_both, both_ways, eqb-true, eq-eqb}
 use Rattle.cs_base.specs.declared.node_id.NodeId.{NodeId}
-use Rattle.cs_tx_types.specs.declared.entry.Entry.{Entry}
+use Rattle.cs_tx_types.specs.declared.action.Action.{Action}
 use Rattle.cs_ledger.specs.Table.{Effect}
 use Rattle.cs_node_rules.specs.Signs.{Dropped, Took, Entered, Viewed, Did, Headed, Kept, Sent}
 use Rattle.cs_node_rules.specs.Site.{Mark, In, Ordered, Plain, Site, signs_of}
@@ -36,7 +36,7 @@ module _ {M : Type 0} (site : Site M) (sound : IsSoundSite site) (known : Known)
   abbrev IsWhole : List (Moment M) → Type 0
   IsWhole story = length (own_log i story) ≡ count_executed i.shard (story_firsts story)
 
-  module _ (node : NodeId) (n p : ℕ) (entry : Entry) (effect : Effect) (past : List (Moment M)) (story : Story site known (record { node = node; mark = Plain (Did n p entry effect) } ∷ past)) where
+  module _ (node : NodeId) (n p : ℕ) (entry : Action) (effect : Effect) (past : List (Moment M)) (story : Story site known (record { node = node; mark = Plain (Did n p entry effect) } ∷ past)) where
     abbrev Now : Moment M
     Now = record { node = node; mark = Plain (Did n p entry effect) }
 

@@ -4,7 +4,7 @@ use Rattle.std.specs.Prelude.{slice_get, take}
 use Rattle.std.specs.List.{enumerate_from}
 use Rattle.std.proofs.lemmas.List.{append-nil, length-append, length_push, map-append, map_push}
 use Rattle.cs_base.specs.declared.node_id.NodeId.{NodeId}
-use Rattle.cs_tx_types.specs.declared.entry.Entry.{Entry}
+use Rattle.cs_tx_types.specs.declared.action.Action.{Action}
 use Rattle.cs_order.specs.declared.proposed.Proposed.{Proposed}
 use Rattle.cs_order.specs.laws.Lists.{slice_get-left}
 use Rattle.cs_order.specs.declared.answers.Step.TheVariants.{Chosen, Moved, Quiet}
@@ -13,7 +13,7 @@ use Rattle.cs_node_rules.specs.Signs.{Dropped, Took, Entered, Viewed, Did, Heade
 use Rattle.cs_node_rules.specs.Site.{Mark, In, Ordered, Plain, Site, signs_of}
 use Rattle.cs_node_rules.specs.World.{Execution}
 use Rattle.cs_ledger.specs.Table.{Effect}
-use Rattle.cs_node_state.specs.Setup.{Action, actions_of}
+use Rattle.cs_node_state.specs.Setup.{actions_of}
 use Rattle.cs_node_state.specs.laws.Actions.{one_action}
 use Rattle.cs_node_law.specs.Made.{view_at, log_in, actions_in, NodeExecutes, AllMade, IsLevel}
 use Rattle.cs_world_law.specs.Steps.{executions_in, Run}
@@ -60,7 +60,7 @@ chosen-more {M} (Cut slot) deeds = ([], sym (append-nil (chosen_in deeds)))
 
 -- ---- in their places
 
-runs-append : (slot : ℕ) (a b : List Entry) → runs_of slot (a ++ b) ≡ runs_of slot a ++ runs_of (slot + length a) b
+runs-append : (slot : ℕ) (a b : List Action) → runs_of slot (a ++ b) ≡ runs_of slot a ++ runs_of (slot + length a) b
 runs-append slot [] b = let e : slot ≡ slot + 0 = omega arith in ap (λ (n : ℕ). runs_of n b) e
 runs-append slot (entry ∷ a) b =
     let e : suc slot + length a ≡ slot + length (entry ∷ a) = omega arith in
@@ -150,7 +150,7 @@ module _ {M : Type 0} (site : Site M) (me : NodeId) where
       record {
         rest = f.rest ++ new;
         is = ap (λ (l : List Proposed). placed site 0 l) more.1
-            ∙ ap (λ (l : List Entry). runs_of 0 l) (map-append site.entry_in (chosen_in (deeds_in t)) more.0)
+            ∙ ap (λ (l : List Action). runs_of 0 l) (map-append site.entry_in (chosen_in (deeds_in t)) more.0)
             ∙ runs-append 0 before after
             ∙ ap (λ (l : List Run). l ++ new) f.is
             ∙ append_assoc (runs_done (Executions t)) f.rest new;
@@ -200,27 +200,27 @@ module _ {M : Type 0} (site : Site M) (me : NodeId) where
 
 -- ---- as it was proposed
 
-abbrev slot_action : Run → ℕ × Entry
+abbrev slot_action : Run → ℕ × Action
 slot_action run = (run.slot, run.action)
 
 slots-done : (executions : List Execution) → slots_with_entries executions ≡ map slot_action (runs_done executions)
 slots-done [] = refl
 slots-done (e ∷ earlier) =
-    ap (λ (l : List (ℕ × Entry)). l ++ (e.slot, e.entry) ∷ []) (slots-done earlier)
+    ap (λ (l : List (ℕ × Action)). l ++ (e.slot, e.entry) ∷ []) (slots-done earlier)
     ∙ sym (map_push slot_action (runs_done earlier) (run_at e.slot e.place e.entry))
 
 -- where each entry has one action, it is the entry of its slot
-one-each : (slot : ℕ) (entries : List Entry) → map slot_action (runs_of slot entries) ≡ enumerate_from slot entries
+one-each : (slot : ℕ) (entries : List Action) → map slot_action (runs_of slot entries) ≡ enumerate_from slot entries
 one-each slot [] = refl
 one-each slot (entry ∷ more) =
     let one : runs_of slot (entry ∷ more) ≡ run_at slot 0 entry ∷ runs_of (suc slot) more = ap (λ (actions : List Action). runs_from slot 0 actions ++ runs_of (suc slot) more) (one_action entry) in
     let next : suc slot ≡ slot + 1 = omega arith in
     ap (λ (l : List Run). map slot_action l) one
-    ∙ ap (λ (l : List (ℕ × Entry)). (slot, entry) ∷ l) (one-each (suc slot) more ∙ ap (λ (n : ℕ). enumerate_from n more) next)
+    ∙ ap (λ (l : List (ℕ × Action)). (slot, entry) ∷ l) (one-each (suc slot) more ∙ ap (λ (n : ℕ). enumerate_from n more) next)
 
 -- what is read of an entry and proposed again is the entry
 again-map : {M : Type 0} (site : Site M) (from : ℕ) (chosen : List Proposed) → ((slot : ℕ) (p : Proposed) → slice_get chosen slot ≡ Some p → site.proposed_of (site.entry_in p) ≡ p)
-    → map (λ (run : ℕ × Entry). site.proposed_of run.1) (enumerate_from from (map site.entry_in chosen)) ≡ chosen
+    → map (λ (run : ℕ × Action). site.proposed_of run.1) (enumerate_from from (map site.entry_in chosen)) ≡ chosen
 again-map {M} site from [] again = refl
 again-map {M} site from (p ∷ chosen) again =
     let first = again 0 p refl in
@@ -229,7 +229,7 @@ again-map {M} site from (p ∷ chosen) again =
 
 module _ {M : Type 0} (site : Site M) (sound : IsSoundSite site) (known : Known) (me : NodeId) where
   pub executed-log : (t : List (Mark M)) → IsLevel site me t → AllWithin site known me t
-      → map (λ (run : ℕ × Entry). site.proposed_of run.1) (slots_with_entries (executions_in me.shard (signs_of t))) ≡ chosen_in (view_at site me t).member.deeds
+      → map (λ (run : ℕ × Action). site.proposed_of run.1) (slots_with_entries (executions_in me.shard (signs_of t))) ≡ chosen_in (view_at site me t).member.deeds
   executed-log t level within =
       let l = local site sound known me t level.made within in
       let all : (slot : ℕ) (p : Proposed) → slice_get (chosen_in (view_at site me t).member.deeds) slot ≡ Some p → site.proposed_of (site.entry_in p) ≡ p =
@@ -240,4 +240,4 @@ module _ {M : Type 0} (site : Site M) (sound : IsSoundSite site) (known : Known)
       let slots = slots-done (executions_in me.shard (signs_of t))
       ∙ ap (λ (l : List Run). map slot_action l) (executes-chosen site me t level)
       ∙ one-each 0 (map site.entry_in (chosen_in (view_at site me t).member.deeds)) in
-      ap (map (λ (run : ℕ × Entry). site.proposed_of run.1)) slots ∙ again-map site 0 (chosen_in (view_at site me t).member.deeds) all
+      ap (map (λ (run : ℕ × Action). site.proposed_of run.1)) slots ∙ again-map site 0 (chosen_in (view_at site me t).member.deeds) all

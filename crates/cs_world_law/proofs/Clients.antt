@@ -3,7 +3,7 @@ use Rattle.std.proofs.Common.{◌≡◌, inl, inr, ℕ, Bool, true, false, if◌
 use Rattle.std.proofs.lemmas.Bool.{and_parts, or_right}
 use Rattle.cs_base.specs.declared.node_id.NodeId.{NodeId}
 use Rattle.cs_tx_types.specs.declared.session.Session.{Session}
-use Rattle.cs_tx_types.specs.declared.entry.Entry.{Entry}
+use Rattle.cs_tx_types.specs.declared.action.Action.{Action}
 use Rattle.cs_wire_message.specs.declared.message.Message.TheVariants as message
 use Rattle.cs_order.specs.declared.proposed.Proposed.{Proposed}
 use Rattle.cs_order.specs.Deeds.{Member}
@@ -108,7 +108,7 @@ log-front {M} site (Plain (Did slot place entry effect) ∷ later) earlier =
     let f = log-front site later earlier in
     (entry_of site.setup entry ∷ f.0, ap (λ l. entry_of site.setup entry ∷ l) f.1)
 
-older-front : (setup : Setup) (n : ℕ) (entries : List Entry) → (front : List Shard.Entry) × (seen setup entries ≡ front ++ seen setup (older n entries))
+older-front : (setup : Setup) (n : ℕ) (entries : List Action) → (front : List Shard.Entry) × (seen setup entries ≡ front ++ seen setup (older n entries))
 older-front setup n [] = ([], refl)
 older-front setup n (e ∷ entries) = by _ (older-front setup n entries)
   where

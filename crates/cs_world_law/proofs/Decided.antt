@@ -2,8 +2,8 @@
 use Rattle.std.proofs.Common.{◌≡◌, ◌⊎◌, inl, inr, ℕ, true, ◌&&◌, List, [], ◌∷◌, length, ◌∙◌, ap, subst, refl}
 use Rattle.std.proofs.lemmas.Bool.{and_from, or_cases, or_left, or_right}
 use Rattle.cs_base.specs.declared.node_id.NodeId.{NodeId}
-use Rattle.cs_tx_types.specs.declared.entry.Entry.{Entry}
-use Rattle.cs_tx_types.specs.declared.entry.Entry.TheVariants.{Prepare, Decide}
+use Rattle.cs_tx_types.specs.declared.action.Action.{Action}
+use Rattle.cs_tx_types.specs.declared.action.Action.TheVariants.{Prepare, Decide}
 use Rattle.cs_ledger.specs.Ledger.{Bytes}
 use Rattle.cs_ledger.specs.Table as Shard
 use Rattle.cs_ledger.specs.Table.{Vote, Commit, Abort, Effect, Voted, Accepted, Aborted, Skipped, Void, exec, table_of}
@@ -22,7 +22,7 @@ use Rattle.cs_world_law.proofs.Lawful.{AreLawful}
 use Rattle.cs_world_law.proofs.Older.{older-votes, older-decided}
 use Rattle.cs_world_law.proofs.Firsts.{own_log, log-seen, are-first}
 
-accepted-by : (setup : Setup) (d : Bytes) (entry : Entry) (effect : Effect) → accepts_by setup d entry effect ≡ true → (is_decide_of d (entry_of setup entry) && is_effect Accepted effect) ≡ true
+accepted-by : (setup : Setup) (d : Bytes) (entry : Action) (effect : Effect) → accepts_by setup d entry effect ≡ true → (is_decide_of d (entry_of setup entry) && is_effect Accepted effect) ≡ true
 accepted-by setup d (Decide vote x) Accepted h = and_from _ _ h refl
 accepted-by setup d (Decide vote x) (Voted other) h = cc
 accepted-by setup d (Decide vote x) Aborted h = cc
@@ -30,10 +30,10 @@ accepted-by setup d (Decide vote x) Skipped h = cc
 accepted-by setup d (Decide vote x) Void h = cc
 accepted-by setup d (Prepare x) effect h = cc
 
-abbrev AbortedBy : Setup → Bytes → Entry → Effect → Type 0
+abbrev AbortedBy : Setup → Bytes → Action → Effect → Type 0
 AbortedBy setup d entry effect = ((is_decide_of d (entry_of setup entry) && is_effect Aborted effect) ≡ true) ⊎ ((is_prepare_of d (entry_of setup entry) && is_vote Abort effect) ≡ true)
 
-aborted-by : (setup : Setup) (d : Bytes) (entry : Entry) (effect : Effect) → aborts_by setup d entry effect ≡ true → AbortedBy setup d entry effect
+aborted-by : (setup : Setup) (d : Bytes) (entry : Action) (effect : Effect) → aborts_by setup d entry effect ≡ true → AbortedBy setup d entry effect
 aborted-by setup d (Decide vote x) Aborted h = inl (and_from _ _ h refl)
 aborted-by setup d (Decide vote x) Accepted h = cc
 aborted-by setup d (Decide vote x) (Voted other) h = cc
@@ -47,7 +47,7 @@ aborted-by setup d (Prepare x) Skipped h = cc
 aborted-by setup d (Prepare x) Void h = cc
 
 -- what an execution on the table of the log came to
-pub came : {M : Type 0} (site : Site M) (me : NodeId) (t : List (Mark M)) (slot place : ℕ) (entry : Entry) (effect : Effect) → AllMade site me (Plain (Did slot place entry effect) ∷ t)
+pub came : {M : Type 0} (site : Site M) (me : NodeId) (t : List (Mark M)) (slot place : ℕ) (entry : Action) (effect : Effect) → AllMade site me (Plain (Did slot place entry effect) ∷ t)
     → effect ≡ (exec site.setup.rules me.shard (table_of site.setup.rules me.shard (seen_log site t)) (entry_of site.setup entry)).effect
 came {M} site me t slot place entry effect made =
     effect-is site me t slot place entry effect made

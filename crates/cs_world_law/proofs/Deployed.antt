@@ -20,14 +20,15 @@ use Rattle.cs_tx_types.specs.declared.checkpoint.Checkpoint.{Checkpoint}
 use Rattle.cs_tx_types.specs.declared.trace.Trace.{Trace}
 use Rattle.cs_tx_types.specs.declared.transaction.Tx.{Tx}
 use Rattle.cs_tx_types.specs.declared.session.Session.{Session}
-use Rattle.cs_tx_types.specs.declared.entry.Entry.{Entry}
-use Rattle.cs_tx_types.specs.Session.{SessionFits, entry_encoding, EntryFits}
+use Rattle.cs_tx_types.specs.declared.action.Action.{Action}
+use Rattle.cs_tx_types.specs.Session.{SessionFits, action_encoding, ActionFits}
 use Rattle.cs_tx.specs.Digest.{digest_of_tx}
-use Rattle.cs_tx_types.specs.Reading.{entry_at}
-use Rattle.cs_tx_types.specs.laws.Session.{entry_form}
+use Rattle.cs_tx_types.specs.Reading.{action_at}
+use Rattle.cs_tx_types.specs.laws.Session.{action_form}
 use Rattle.cs_wire_message.specs.declared.kinds.TheConstants.{WANT, HEAD}
 use Rattle.cs_wire_message.specs.declared.message.Message.{Message}
 use Rattle.cs_wire_message.specs.declared.message.Message.TheVariants as message
+use Rattle.cs_base.specs.declared.version.Version.TheVariants.{One}
 use Rattle.cs_wire_message.specs.Message.{kind_of, body_of, MessageFits}
 use Rattle.cs_wire_message.specs.laws.Kinds.{kind_small}
 use Rattle.cs_wire_message.specs.Body.{message_whole}
@@ -86,21 +87,22 @@ no-fault (Some error) later sender said e = absurd cc
 no-fault None later sender said e = e
 
 -- a datagram that opens says what its body is
-opens-whole : (keys : Keys) (key : Bytes) (from to sender : NodeId) (m said : Message) → IsName from → IsName to → length (body_of m) < 2 ^ 32 → opened keys (wire.sealed key from to m) ≡ Ok (sender, said) → message_whole (kind_of m) (body_of m) ≡ Some said
-opens-whole keys key from to sender m said of_from of_to short reads =
-    let h = head_for from to m in
-    let body = body_of m in
-    let text = message_text from to m in
+opens-whole : (keys : Keys) (key : Bytes) (from to sender : NodeId) (m said : Message) → keys.version ≡ One → IsName from → IsName to → length (body_of One m) < 2 ^ 32 → opened keys (wire.sealed One key from to m) ≡ Ok (sender, said) → message_whole One (kind_of m) (body_of One m) ≡ Some said
+opens-whole keys key from to sender m said in_one of_from of_to short reads =
+    let h = head_for One from to m in
+    let body = body_of One m in
+    let text = message_text One from to m in
     let tag = hmac key text in
-    let bytes = wire.sealed key from to m in
-    let fits : HeadFits h = ((refl, magic_bytes), (kind_small m, (of_from, (of_to, short)))) in
-    let is : bytes ≡ (head_encoding h ++ body) ++ tag = ap (λ (t : Bytes). t ++ tag) (text_parts from to m) in
+    let bytes = wire.sealed One key from to m in
+    let fits : HeadFits h = ((refl, magic_bytes One), (kind_small m, (of_from, (of_to, short)))) in
+    let is : bytes ≡ (head_encoding h ++ body) ++ tag = ap (λ (t : Bytes). t ++ tag) (text_parts One from to m) in
     let parts = split (head_encoding h) body tag bytes (head_length h refl) (length-sha256 _) is in
     let found : head_at bytes ≡ Some (h, body ++ tag) = ap head_at (is ∙ append_assoc (head_encoding h) body tag) ∙ head_form.again h (body ++ tag) fits in
     let seen : head_seen bytes ≡ Some h = ap first found in
-    let clear = no-fault (open_fault keys bytes) (opened_body bytes (head_seen bytes)) sender said reads in
-    let here : said_by h.from (message_whole h.kind (body_in bytes)) ≡ Ok (sender, said) = sym (ap (opened_body bytes) seen) ∙ clear in
-    ap (message_whole (kind_of m)) (sym parts.body) ∙ said-whole h.from sender said (message_whole h.kind (body_in bytes)) here
+    let clear = no-fault (open_fault keys bytes) (opened_body One bytes (head_seen bytes)) sender said
+    (subst (λ v. unless_fault (open_fault keys bytes) (opened_body v bytes (head_seen bytes)) ≡ Ok (sender, said)) in_one reads) in
+    let here : said_by h.from (message_whole One h.kind (body_in bytes)) ≡ Ok (sender, said) = sym (ap (opened_body One bytes) seen) ∙ clear in
+    ap (message_whole One (kind_of m)) (sym parts.body) ∙ said-whole h.from sender said (message_whole One h.kind (body_in bytes)) here
 
 want-of : (m : Message) → kind_of m ≡ WANT → (slot : ℕ) × (m ≡ message.Want slot)
 want-of (message.Want slot) e = (slot, refl)
@@ -140,8 +142,9 @@ module _ {M : Type 0} (config : Config) (net : Net) (is_net : IsNet config net) 
 
   -- ---- what was given
 
-  pub opens-fit : (me sender : NodeId) (bytes : Bytes) (said : Message) → IsBytes bytes → At.net.opened me bytes ≡ Ok (sender, said) → MessageFits said
-  opens-fit me sender bytes said fits reads = opened-fits (is_net.keys me) bytes (sender, said) fits (sym (is_net.opens me bytes) ∙ reads)
+  pub opens-fit : (me sender : NodeId) (bytes : Bytes) (said : Message) → IsBytes bytes → At.net.opened me bytes ≡ Ok (sender, said) → MessageFits One said
+  opens-fit me sender bytes said fits reads =
+      subst (λ v. MessageFits v said) (is_net.version me) (opened-fits (is_net.keys me) bytes (sender, said) fits (sym (is_net.opens me bytes) ∙ reads))
 
   input-fits : (me : NodeId) (input : Input) → InputIsBytes input → InputFits At me input
   input-fits me (Datagram bytes) fits = λ sender said reads. opens-fit me sender bytes said fits reads
@@ -175,9 +178,9 @@ module _ {M : Type 0} (config : Config) (net : Net) (is_net : IsNet config net) 
   -- ---- the site
 
   -- what was sealed for a name, as its keys open it
-  opened-there : (from to sender : NodeId) (m said : Message) → At.net.opened to (sealed_by_net At.net from to m) ≡ Ok (sender, said) → opened (is_net.keys to) (wire.sealed (is_net.key from to) from to m) ≡ Ok (sender, said)
+  opened-there : (from to sender : NodeId) (m said : Message) → At.net.opened to (sealed_by_net At.net from to m) ≡ Ok (sender, said) → opened (is_net.keys to) (wire.sealed One (is_net.key from to) from to m) ≡ Ok (sender, said)
   opened-there from to sender m said reads =
-      ap (opened (is_net.keys to)) (sealed_is (is_net.key from to) from to m ∙ sym (is_net.seals from to (kind_of m) (body_of m)))
+      ap (opened (is_net.keys to)) (sealed_is One (is_net.key from to) from to m ∙ sym (is_net.seals from to (kind_of m) (body_of One m)))
       ∙ sym (is_net.opens to (sealed_by_net At.net from to m)) ∙ reads
 
   pub is-sound : Law machine → Holds machine → Carries machine carrier → (world : List (Happening M)) → 0 < config.shards → config.shards ≤ 16 → config.f ≤ 5 → IsWorld At world → IsSoundSite At
@@ -194,19 +197,19 @@ module _ {M : Type 0} (config : Config) (net : Net) (is_net : IsNet config net) 
         index = λ name e. (let n = (nodes name e).1 in omega arith);
         apart = λ name e. no-client name config.shards few (nodes name e).0;
         exact = λ from to sender m said hf ht fits reads.
-            let whole = opens-whole (is_net.keys to) (is_net.key from to) from to sender m said (names from hf) (names to ht) (let s = body_short m fits in omega (arith, s)) (opened-there from to sender m said reads) in
-            some_is said m (sym whole ∙ has_whole (kind_of m) (body_of m) m (record { kind = refl; body = refl; fits = fits }));
+            let whole = opens-whole (is_net.keys to) (is_net.key from to) from to sender m said (is_net.version to) (names from hf) (names to ht) (let s = body_short One m fits in omega (arith, s)) (opened-there from to sender m said reads) in
+            some_is said m (sym whole ∙ has_whole One (kind_of m) (body_of One m) m (record { kind = refl; body = refl; fits = fits }));
         wanted = λ from to sender slot said hf ht reads.
             let m = message.Want slot in
-            let whole = opens-whole (is_net.keys to) (is_net.key from to) from to sender m said (names from hf) (names to ht) (omega arith) (opened-there from to sender m said reads) in
-            want-of said (whole_has 8 (to_be_bytes w64 slot) said (bytes-want slot) whole).kind;
+            let whole = opens-whole (is_net.keys to) (is_net.key from to) from to sender m said (is_net.version to) (names from hf) (names to ht) (omega arith) (opened-there from to sender m said reads) in
+            want-of said (whole_has One 8 (to_be_bytes w64 slot) said (bytes-want One slot) whole).kind;
         headed = λ from to sender c said hf ht digests reads.
             let m = message.Head c in
-            let short : length (body_of m) < 2 ^ 32 = (let all = length-head c digests in omega (arith, all)) in
-            let whole = opens-whole (is_net.keys to) (is_net.key from to) from to sender m said (names from hf) (names to ht) short (opened-there from to sender m said reads) in
-            head-of said (whole_has 12 (body_of m) said (bytes-head c digests) whole).kind;
+            let short : length (body_of One m) < 2 ^ 32 = (let all = length-head c digests in omega (arith, all)) in
+            let whole = opens-whole (is_net.keys to) (is_net.key from to) from to sender m said (is_net.version to) (names from hf) (names to ht) short (opened-there from to sender m said reads) in
+            head-of said (whole_has One 12 (body_of One m) said (bytes-head c digests) whole).kind;
         proposes = λ entry. refl;
-        reads = λ entry fits. ap entry_or_void (whole-again entry_encoding EntryFits entry_at entry_form entry fits);
+        reads = λ entry fits. ap entry_or_void (whole-again action_encoding ActionFits action_at action_form entry fits);
         bound = λ name. mod_below _ config.shards some;
       }
 
@@ -275,7 +278,7 @@ module _ {M : Type 0} (config : Config) (net : Net) (is_net : IsNet config net) 
   written-from (x ∷ known) w (inl e) = (x, inl refl, e)
   written-from (x ∷ known) w (inr i) = let r = written-from known w i in (r.0, inr r.1, r.2)
 
-  module _ (known : List Session) (entries : List Entry) where
+  module _ (known : List Session) (entries : List Action) where
     abbrev Hashed : Bytes → Type 0
     Hashed string = IsHashed genesis known entries string
 
@@ -314,5 +317,5 @@ module _ {M : Type 0} (config : Config) (net : Net) (is_net : IsNet config net) 
   -- no two known entries have one digest
   pub are-unique : (world : List (Happening M)) → NoCollision At genesis world → IsUnique (known_entries At world)
   are-unique world apart a b i j e =
-      let one : 69 ∷ entry_encoding a ≡ 69 ∷ entry_encoding b = apart (69 ∷ entry_encoding a) (69 ∷ entry_encoding b) (OfEntry a i) (OfEntry b j) e in
+      let one : 69 ∷ action_encoding a ≡ 69 ∷ action_encoding b = apart (69 ∷ action_encoding a) (69 ∷ action_encoding b) (OfEntry a i) (OfEntry b j) e in
       cc

@@ -10,13 +10,15 @@ use Rattle.cs_base.proofs.Forms.{some_is}
 use Rattle.cs_tx_value.specs.Kinds.{kinds_at}
 use Rattle.cs_tx_types.specs.declared.session.Session.{Session}
 use Rattle.cs_tx_types.specs.declared.vote.Vote.TheVariants.{Commit, Abort}
-use Rattle.cs_tx_types.specs.declared.entry.Entry.{Entry}
-use Rattle.cs_tx_types.specs.declared.entry.Entry.TheVariants.{Prepare, Decide}
+use Rattle.cs_tx_types.specs.declared.action.Action.{Action}
+use Rattle.cs_tx_types.specs.declared.action.Action.TheVariants.{Prepare, Decide}
+use Rattle.cs_tx_types.specs.Entry.{entry_alone}
 use Rattle.cs_tx_types.specs.Reading.{front_at, back_at, trace_at, tx_at, session_at}
 use Rattle.cs_ledger.specs.Ledger.{Bytes, Item, Transaction}
 use Rattle.cs_ledger.specs.Table as Shard
 use Rattle.cs_wire_message.specs.declared.message.Message.{Message}
 use Rattle.cs_wire_message.specs.declared.message.Message.TheVariants as message
+use Rattle.cs_base.specs.declared.version.Version.TheVariants.{One}
 use Rattle.cs_wire_message.specs.Body.{message_whole}
 use Rattle.cs_wire_message.specs.Reading.{flag_at, propose_at, step_at, voted_at}
 use Rattle.cs_wire.specs.Opened.{Opened, said_by}
@@ -67,33 +69,38 @@ split = record {
 }
 
 -- an entry comes to two numbers, which are filled up to a digest
-abbrev bytes_of : Entry → Bytes
+abbrev bytes_of : Action → Bytes
 bytes_of (Prepare x) = 0 ∷ x.number ∷ []
 bytes_of (Decide Commit x) = 1 ∷ x.number ∷ []
 bytes_of (Decide Abort x) = 2 ∷ x.number ∷ []
 
-abbrev pub proposed : Entry → Proposed
+abbrev pub proposed : Action → Proposed
 proposed entry = record { digest = bytes_of entry ++ replicate 30 0; bytes = bytes_of entry }
 
-abbrev entry_of_bytes : Bytes → Entry
+abbrev entry_of_bytes : Bytes → Action
 entry_of_bytes (zero ∷ number ∷ []) = Prepare (session number)
 entry_of_bytes (suc zero ∷ number ∷ []) = Decide Commit (session number)
 entry_of_bytes (suc (suc n) ∷ number ∷ []) = Decide Abort (session number)
 entry_of_bytes _ = Prepare (session 0)
 
 abbrev pub written : OrderMessage → Message
-written (order.Propose slot view p) = message.Propose slot view (entry_of_bytes p.bytes)
+written (order.Propose slot view p) = message.Propose slot view (entry_alone (entry_of_bytes p.bytes))
 written (order.Echo slot view digest) = message.Echo slot view digest
 written (order.Confirm slot view digest) = message.Confirm slot view digest
 written (order.Change slot view c) = message.Change slot view (record { prepared = c.prepared; echoed = c.echoed })
-written (order.Done slot p) = message.Done slot (entry_of_bytes p.bytes)
+written (order.Done slot p) = message.Done slot (entry_alone (entry_of_bytes p.bytes))
+
+-- the action of an entry of one
+abbrev alone : List Action → Action
+alone [] = Prepare (session 0)
+alone (action ∷ more) = action
 
 abbrev heard : Message → Option OrderMessage
-heard (message.Propose slot view entry) = Some (order.Propose slot view (proposed entry))
+heard (message.Propose slot view entry) = Some (order.Propose slot view (proposed (alone entry.actions)))
 heard (message.Echo slot view digest) = Some (order.Echo slot view digest)
 heard (message.Confirm slot view digest) = Some (order.Confirm slot view digest)
 heard (message.Change slot view c) = Some (order.Change slot view (record { prepared = c.prepared; echoed = c.echoed }))
-heard (message.Done slot entry) = Some (order.Done slot (proposed entry))
+heard (message.Done slot entry) = Some (order.Done slot (proposed (alone entry.actions)))
 heard said = None
 
 abbrev pub member : ℕ → NodeId
@@ -114,7 +121,7 @@ abbrev datagram : NodeId → NodeId → ℕ → Bytes → Bytes
 datagram from to kind body = code_of from ∷ kind ∷ body
 
 abbrev opened_as : Bytes → Opened
-opened_as (from ∷ kind ∷ body) = said_by (name_of from) (message_whole kind body)
+opened_as (from ∷ kind ∷ body) = said_by (name_of from) (message_whole One kind body)
 opened_as _ = Err error.Short
 
 abbrev pub site : Site OrderMessage
@@ -156,10 +163,10 @@ does index deed = plain (handed site (member index) (sent_by deed)) ++ Ordered d
 abbrev pub event : ℕ → Input → Marks → Happening OrderMessage
 event index input marks = record { node = member index; input = input; marks = marks ++ In input ∷ [] }
 
-abbrev pub vote : Entry
+abbrev pub vote : Action
 vote = Prepare (session 16)
 
-abbrev decision : Entry
+abbrev decision : Action
 decision = Decide Commit (session 16)
 
 abbrev d : Bytes
@@ -193,10 +200,10 @@ abbrev submitted : Happenings
 submitted = event 0 (said client 0 (message.Submit (session 16))) (does 0 echo ++ (does 0 propose ++ Plain (Entered (session 16)) ∷ [])) ∷ []
 
 abbrev echoed_1 : Happenings
-echoed_1 = event 1 (said (member 0) 1 (message.Propose 0 0 vote)) (does 1 echo ++ takes 0 (order.Propose 0 0 (proposed vote))) ∷ submitted
+echoed_1 = event 1 (said (member 0) 1 (message.Propose 0 0 (entry_alone vote))) (does 1 echo ++ takes 0 (order.Propose 0 0 (proposed vote))) ∷ submitted
 
 abbrev pub echoed_2 : Happenings
-echoed_2 = event 2 (said (member 0) 2 (message.Propose 0 0 vote)) (does 2 echo ++ takes 0 (order.Propose 0 0 (proposed vote))) ∷ echoed_1
+echoed_2 = event 2 (said (member 0) 2 (message.Propose 0 0 (entry_alone vote))) (does 2 echo ++ takes 0 (order.Propose 0 0 (proposed vote))) ∷ echoed_1
 
 abbrev one_echo : Happenings
 one_echo = event 0 (said (member 1) 0 (message.Echo 0 0 d)) (takes 1 (order.Echo 0 0 d)) ∷ echoed_2

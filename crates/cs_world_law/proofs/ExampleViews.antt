@@ -5,8 +5,8 @@ use Rattle.std.specs.Prelude.{◌++◌}
 use Rattle.cs_base.specs.Fields.{pair_at, many_at, some_at, tested_at, upto_at, within_at}
 use Rattle.cs_base.proofs.Forms.{some_is}
 use Rattle.cs_tx_value.specs.Kinds.{kinds_at}
-use Rattle.cs_tx_types.specs.declared.entry.Entry.{Entry}
-use Rattle.cs_tx_types.specs.declared.entry.Entry.TheVariants.{Prepare}
+use Rattle.cs_tx_types.specs.declared.action.Action.{Action}
+use Rattle.cs_tx_types.specs.declared.action.Action.TheVariants.{Prepare}
 use Rattle.cs_tx_types.specs.Reading.{front_at, back_at, trace_at, tx_at, session_at}
 use Rattle.cs_ledger.specs.Ledger.{Bytes}
 use Rattle.cs_wire_message.specs.declared.message.Message.TheVariants as message
@@ -34,7 +34,7 @@ use Rattle.cs_world_law.proofs.Example.{Marks, Happenings, session, proposed, wr
 -- ---- what is told
 
 -- the entry of view 0 is the vote on session 16; this one is of view 1
-abbrev second : Entry
+abbrev second : Action
 second = Prepare (session 17)
 
 abbrev first_digest : Bytes

@@ -4,7 +4,7 @@ use Rattle.std.specs.Prelude.{slice_get}
 use Rattle.std.proofs.lemmas.Bool.{cond_both, both_ways, eqb-true, eq-eqb, ltb-true, or_left, or_right, and_from}
 use Rattle.std.proofs.lemmas.List.{length-map}
 use Rattle.cs_base.specs.declared.node_id.NodeId.{NodeId}
-use Rattle.cs_tx_types.specs.declared.entry.Entry.{Entry}
+use Rattle.cs_tx_types.specs.declared.action.Action.{Action}
 use Rattle.cs_ledger.specs.Ledger.{Bytes}
 use Rattle.cs_ledger.specs.Table.{Vote, Effect}
 use Rattle.cs_ledger.specs.ShardWorld.{log, votes_in}
@@ -47,7 +47,7 @@ log-seen setup shard (e ∷ earlier) = go (e.shard == shard) (log-seen setup sha
 -- ---- the actions in their places
 
 -- what a node executed, the newest first
-abbrev pub own_log : {M : Type 0} → NodeId → List (Moment M) → List Entry
+abbrev pub own_log : {M : Type 0} → NodeId → List (Moment M) → List Action
 own_log {M} i story = log_in (signs_of (trail_at i story))
 
 -- and in its places
@@ -57,12 +57,12 @@ own_runs {M} i story = runs_in (signs_of (trail_at i story))
 abbrev pub run_of : Execution → Run
 run_of e = record { slot = e.slot; place = e.place; action = e.entry }
 
-abbrev pub action_in : Run → Entry
+abbrev pub action_in : Run → Action
 action_in run = run.action
 
 pub own-actions : (signs : List Sign) → map action_in (runs_in signs) ≡ log_in signs
 own-actions [] = refl
-own-actions (Did slot place action effect ∷ past) = ap (λ (l : List Entry). action ∷ l) (own-actions past)
+own-actions (Did slot place action effect ∷ past) = ap (λ (l : List Action). action ∷ l) (own-actions past)
 own-actions (Dropped cause ∷ past) = own-actions past
 own-actions (Took sender vote x ∷ past) = own-actions past
 own-actions (Entered x ∷ past) = own-actions past
@@ -77,11 +77,11 @@ shard-actions shard (e ∷ earlier) = go (e.shard == shard) (shard-actions shard
   where
     go : (b : Bool) → map action_in (shard_runs shard earlier) ≡ shard_entries shard earlier
         → map action_in (if b then run_of e ∷ shard_runs shard earlier else shard_runs shard earlier) ≡ (if b then e.entry ∷ shard_entries shard earlier else shard_entries shard earlier)
-    go true later = ap (λ (l : List Entry). e.entry ∷ l) later
+    go true later = ap (λ (l : List Action). e.entry ∷ l) later
     go false later = later
 
 pub counted-runs : (shard : ℕ) (firsts : List Execution) → count_executed shard firsts ≡ length (shard_runs shard firsts)
-counted-runs shard firsts = counted-entries shard firsts ∙ ap (λ (l : List Entry). length l) (sym (shard-actions shard firsts)) ∙ length-map (shard_runs shard firsts) action_in
+counted-runs shard firsts = counted-entries shard firsts ∙ ap (λ (l : List Action). length l) (sym (shard-actions shard firsts)) ∙ length-map (shard_runs shard firsts) action_in
 
 -- the newest execution is the newest of its shard
 abbrev IsNewest : Option Execution → List Run → Type 0
@@ -168,7 +168,7 @@ module _ {M : Type 0} (site : Site M) (sound : IsSoundSite site) (known : Known)
             };
       }
 
-  module _ (node : NodeId) (n p : ℕ) (entry : Entry) (effect : Effect) (past : List (Moment M)) (story : Story site known (record { node = node; mark = Plain (Did n p entry effect) } ∷ past)) where
+  module _ (node : NodeId) (n p : ℕ) (entry : Action) (effect : Effect) (past : List (Moment M)) (story : Story site known (record { node = node; mark = Plain (Did n p entry effect) } ∷ past)) where
     abbrev Now : Moment M
     Now = record { node = node; mark = Plain (Did n p entry effect) }
 
@@ -402,7 +402,7 @@ module _ {M : Type 0} (site : Site M) (sound : IsSoundSite site) (known : Known)
   -- ---- without their places
 
   -- an honest node of the shard executed the action as its action of this number
-  pub record IsSource (shard : ℕ) (story : List (Moment M)) (number : ℕ) (entry : Entry) : Type 0 where
+  pub record IsSource (shard : ℕ) (story : List (Moment M)) (number : ℕ) (entry : Action) : Type 0 where
     pub node : NodeId
     pub honest : is_honest site node ≡ true
     pub here : node.shard ≡ shard
@@ -410,7 +410,7 @@ module _ {M : Type 0} (site : Site M) (sound : IsSoundSite site) (known : Known)
 
   pub record AreFirst (shard : ℕ) (story : List (Moment M)) : Type 0 where
     pub older : (i : NodeId) → is_honest site i ≡ true → i.shard ≡ shard → IsOlder (own_log i story) (shard_entries shard (story_firsts story))
-    pub from : (number : ℕ) (entry : Entry) → at_slot (shard_entries shard (story_firsts story)) number ≡ Some entry → IsSource shard story number entry
+    pub from : (number : ℕ) (entry : Action) → at_slot (shard_entries shard (story_firsts story)) number ≡ Some entry → IsSource shard story number entry
 
   pub are-first : (shard : ℕ) (story : List (Moment M)) → Story site known story → AreFirst shard story
   are-first shard story story_is =
@@ -419,18 +419,18 @@ module _ {M : Type 0} (site : Site M) (sound : IsSoundSite site) (known : Known)
       let all : map action_in runs ≡ shard_entries shard (story_firsts story) = shard-actions shard (story_firsts story) in
       record {
         older = λ i honest here.
-            subst (λ (l : List Entry). IsOlder (own_log i story) l) all
-            (subst (λ (l : List Entry). IsOlder l (map action_in runs)) (own-actions (signs_of (trail_at i story))) (map-older action_in (own_runs i story) runs (k.older i honest here)));
+            subst (λ (l : List Action). IsOlder (own_log i story) l) all
+            (subst (λ (l : List Action). IsOlder l (map action_in runs)) (own-actions (signs_of (trail_at i story))) (map-older action_in (own_runs i story) runs (k.older i honest here)));
         from = λ number entry h.
-            let found = at-map action_in runs number entry (ap (λ (l : List Entry). at_slot l number) all ∙ h) in
+            let found = at-map action_in runs number entry (ap (λ (l : List Action). at_slot l number) all ∙ h) in
             let s = k.from number found.0 found.1 in
             record {
               node = s.node;
               honest = s.honest;
               here = s.here;
-              has = ap (λ (l : List Entry). at_slot l number) (sym (own-actions (signs_of (trail_at s.node story))))
+              has = ap (λ (l : List Action). at_slot l number) (sym (own-actions (signs_of (trail_at s.node story))))
                   ∙ map-at action_in (own_runs s.node story) number found.0 s.has
-                  ∙ ap (λ (a : Entry). Some a) found.2;
+                  ∙ ap (λ (a : Action). Some a) found.2;
             };
       }
 

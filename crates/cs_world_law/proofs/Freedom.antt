@@ -5,8 +5,8 @@ use Rattle.std.proofs.lemmas.Bool.{and_parts}
 use Rattle.cs_base.specs.declared.node_id.NodeId.{NodeId}
 use Rattle.cs_tx_types.specs.declared.session.Session.{Session}
 use Rattle.cs_tx_types.specs.declared.vote.Vote.TheVariants as tx
-use Rattle.cs_tx_types.specs.declared.entry.Entry.{Entry}
-use Rattle.cs_tx_types.specs.declared.entry.Entry.TheVariants.{Prepare}
+use Rattle.cs_tx_types.specs.declared.action.Action.{Action}
+use Rattle.cs_tx_types.specs.declared.action.Action.TheVariants.{Prepare}
 use Rattle.cs_wire_message.specs.declared.message.Message.{Message}
 use Rattle.cs_wire_message.specs.declared.message.Message.TheVariants as message
 use Rattle.cs_order.specs.declared.proposed.Proposed.{Proposed}
@@ -19,7 +19,7 @@ use Rattle.cs_ledger.specs.Table as Shard
 use Rattle.cs_ledger.specs.Table.{Table, Outcome}
 use Rattle.cs_ledger.proofs.Basics.{bytes_refl, first_is, anchor_used, in_left, in_right}
 use Rattle.cs_ledger.proofs.States.{ready_at}
-use Rattle.cs_node_state.specs.Setup.{Action, actions_of, concerned, is_fit}
+use Rattle.cs_node_state.specs.Setup.{actions_of, concerned, is_fit}
 use Rattle.cs_tx_types.specs.Session.{session_in}
 use Rattle.cs_node_rules.specs.Members.{others}
 use Rattle.cs_node_state.specs.Bench.{is_locked_at, is_locked, executed, told_by, vote_told}
@@ -90,7 +90,7 @@ module _ {M : Type 0} (site : Site M) (sound : IsSoundSite site) (known : Known)
   only-me from f none a b = omega arith
 
   -- each action of an entry is of a session that fits
-  abbrev AllFit : Entry → Type 0
+  abbrev AllFit : Action → Type 0
   AllFit entry = (action : Action) → IsIn action (actions_of entry) → is_fit site.setup me.shard (session_in action) ≡ true
 
   -- what a node holds is its own, and fits
@@ -125,7 +125,7 @@ module _ {M : Type 0} (site : Site M) (sound : IsSoundSite site) (known : Known)
                 let read : site.entry_in p ≡ due.entry = ap site.entry_in (same ∙ due.is) ∙ due-read site sound known me t due.entry made.1 within.1 (local site sound known me t made.1 within.1) d in
                 let session : session_in due.entry ≡ d.0.1.session = elim d.2 [ inl prepare ↦ ap session_in prepare | inr decision ↦ ap session_in decision.1 ] in
                 let one : is_fit site.setup me.shard (session_in due.entry) ≡ true = ap (λ z. is_fit site.setup me.shard z) session ∙ s.fit in
-                subst AllFit (sym read) (each_action (λ (e : Entry). is_fit site.setup me.shard (session_in e) ≡ true) due.entry one)
+                subst AllFit (sym read) (each_action (λ (e : Action). is_fit site.setup me.shard (session_in e) ≡ true) due.entry one)
             | inr candidate ↦
                 let may = ap site.machine.may_propose (sym (member-is site me t)) ∙ candidate.may in
                 held p (subst (λ z. IsIn z (held_in site.machine (deeds_in t))) (sym same) (sound.holds.offered site.setup.f me.index (deeds_in t) (deeds-kept site sound known me t made.1) candidate.candidates proposed may candidate.within))

@@ -8,6 +8,7 @@ use Rattle.cs_base.specs.Lists.{IsIn}
 use Rattle.cs_base.specs.declared.node_id.NodeId.{NodeId}
 use Rattle.cs_tx_value.specs.Object.{DigestFits}
 use Rattle.cs_tx_types.specs.declared.leaf.Leaf.{Leaf}
+use Rattle.cs_base.specs.declared.version.Version.TheVariants.{One}
 use Rattle.cs_tx_types.specs.Log.{leaf_encoding, LeafFits, CheckpointFits}
 use Rattle.cs_merkle.specs.Tree.{merkle_tree_hash}
 use Rattle.cs_check_rules.specs.Chain.{Log, empty_log, with_slot, covered_leaves, head_of, checkpoint_of, chain_head}
@@ -129,13 +130,13 @@ module _ {M : Type 0} (site : Site M) (me : NodeId) where
 
   pub record IsCovered (t : List (Mark M)) (number : ℕ) (head : Bytes) : Type 0 where
     pub part : List Leaf
-    pub fit : All LeafFits part
+    pub fit : All (LeafFits One) part
     pub within : (leaf : Leaf) → IsIn leaf part → IsIn leaf (leaves_of (DoneAt site me t))
-    pub is : covered_leaves (LogAt site me t) number ≡ map leaf_encoding part
-    pub over : CoversLeaves (checkpoint_of (LogAt site me t) number) (map leaf_encoding part)
+    pub is : covered_leaves (LogAt site me t) number ≡ map (leaf_encoding One) part
+    pub over : CoversLeaves (checkpoint_of (LogAt site me t) number) (map (leaf_encoding One) part)
     pub head_is : head_of (checkpoint_of (LogAt site me t) number) ≡ head
 
-  checkpoint-fits : (t : List (Mark M)) (number : ℕ) → me.shard < 2 ^ 16 → number < 2 ^ 64 → number < length (LogAt site me t).table_roots → CheckpointFits (checkpoint_of (LogAt site me t) number)
+  checkpoint-fits : (t : List (Mark M)) (number : ℕ) → me.shard < 2 ^ 16 → number < 2 ^ 64 → number < length (LogAt site me t).table_roots → CheckpointFits One (checkpoint_of (LogAt site me t) number)
   checkpoint-fits t number small narrow there =
       let of = log-of t in
       record {
@@ -144,6 +145,7 @@ module _ {M : Type 0} (site : Site M) (me : NodeId) where
         previous = before_hashed (LogAt site me t) number;
         leaf_root = root_hashed (covered_leaves (LogAt site me t) number);
         table_root = All-get_or DigestFits (LogAt site me t).table_roots number [] there of.roots;
+        leaves = refl;
       }
 
   pub are-covered : (t : List (Mark M)) → AllMade site me t → AreEntries site me (signs_of t) → length (DoneAt site me t) ≤ 2 ^ 64 → me.shard < 2 ^ 16
@@ -155,16 +157,16 @@ module _ {M : Type 0} (site : Site M) (me : NodeId) where
       let h = heads-kept t made number head i in
       let kept = leaves-kept site me t made in
       let part = take 16 (drop (16 * number) leaves) in
-      let is : covered_leaves log number ≡ map leaf_encoding part =
+      let is : covered_leaves log number ≡ map (leaf_encoding One) part =
       ap (λ (l : List (List ℕ)). take 16 (drop (16 * number) l)) kept
-      ∙ ap (take 16) (drop-map leaf_encoding (16 * number) leaves)
-      ∙ take-map leaf_encoding 16 (drop (16 * number) leaves) in
-      let count : length log.leaves ≡ length (DoneAt site me t) = ap length kept ∙ length-map leaves leaf_encoding ∙ leaf-count (DoneAt site me t) in
+      ∙ ap (take 16) (drop-map (leaf_encoding One) (16 * number) leaves)
+      ∙ take-map (leaf_encoding One) 16 (drop (16 * number) leaves) in
+      let count : length log.leaves ≡ length (DoneAt site me t) = ap length kept ∙ length-map leaves (leaf_encoding One) ∙ leaf-count (DoneAt site me t) in
       let long : length (covered_leaves log number) ≡ 16 =
       omega (arith, of.enough, h.there, length-take 16 (drop (16 * number) log.leaves), length-drop (16 * number) log.leaves) in
       record {
         part = part;
-        fit = All-take LeafFits 16 (drop (16 * number) leaves) (All-drop LeafFits (16 * number) leaves (leaves-fit site me t made all few));
+        fit = All-take (LeafFits One) 16 (drop (16 * number) leaves) (All-drop (LeafFits One) (16 * number) leaves (leaves-fit site me t made all few));
         within = λ leaf j. in-drop leaf (16 * number) leaves (in-take leaf 16 (drop (16 * number) leaves) j);
         is = is;
         over = record {

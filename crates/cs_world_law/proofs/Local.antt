@@ -3,8 +3,8 @@ use Rattle.std.proofs.Common.{◌≡◌, ◌⊎◌, inl, inr, ℕ, List, [], ◌
 use Rattle.std.specs.Prelude.{Ok, Err, slice_get}
 use Rattle.cs_base.specs.declared.node_id.NodeId.{NodeId}
 use Rattle.cs_tx_types.specs.declared.session.Session.{Session}
-use Rattle.cs_tx_types.specs.declared.entry.Entry.{Entry}
-use Rattle.cs_tx_types.specs.Session.{SessionFits, EntryFits, session_in}
+use Rattle.cs_tx_types.specs.declared.action.Action.{Action}
+use Rattle.cs_tx_types.specs.Session.{SessionFits, ActionFits, session_in}
 use Rattle.cs_wire_message.specs.declared.message.Message.{Message}
 use Rattle.cs_wire_message.specs.declared.message.Message.TheVariants as message
 use Rattle.cs_wire.specs.Opened.{Opened}
@@ -15,7 +15,7 @@ use Rattle.cs_order.specs.Runs.{KeepsRules, AllKeepRules, entries_handed_in as e
 use Rattle.cs_ledger.specs.Ledger.{Bytes}
 use Rattle.cs_ledger.specs.Table.{Effect}
 use Rattle.cs_ledger.proofs.Basics.{in_either}
-use Rattle.cs_node_state.specs.Setup.{Action, actions_of}
+use Rattle.cs_node_state.specs.Setup.{actions_of}
 use Rattle.cs_node_rules.specs.Signs.{Dropped, Took, Entered, Viewed, Did, Headed, Kept, Sent}
 use Rattle.cs_node_rules.specs.Site.{Datagram, Tick, Mark, In, Ordered, Plain, Site, signs_of}
 use Rattle.cs_node_rules.specs.Collisions.{sessions_in, entries_in, in_opened}
@@ -48,18 +48,20 @@ map-in f x [] i = absurd i
 map-in f x (y ∷ xs) (inl e) = inl (ap f e)
 map-in f x (y ∷ xs) (inr i) = inr (map-in f x xs i)
 
--- the sessions of an entry in a message stand there too
-entry-sessions : (m : Message) (e : Entry) → IsIn e (entries_in m) → (a : Action) → IsIn a (actions_of e) → IsIn (session_in a) (sessions_in m)
-entry-sessions (message.Propose slot view entry) e (inl is) a i = map-in session_in a (actions_of entry) (subst (λ (z : Entry). IsIn a (actions_of z)) is i)
-entry-sessions (message.Propose slot view entry) e (inr none) a i = absurd none
-entry-sessions (message.Done slot entry) e (inl is) a i = map-in session_in a (actions_of entry) (subst (λ (z : Entry). IsIn a (actions_of z)) is i)
-entry-sessions (message.Done slot entry) e (inr none) a i = absurd none
-entry-sessions said e there a i = absurd there
+-- the session of an action in a message stands there too
+action-session : (m : Message) (e : Action) → IsIn e (entries_in m) → IsIn (session_in e) (sessions_in m)
+action-session (message.Propose slot view entry) e i = map-in session_in e entry.actions i
+action-session (message.Done slot entry) e i = map-in session_in e entry.actions i
+action-session said e there = absurd there
+
+-- and so do those of the actions of what is proposed
+entry-sessions : (m : Message) (e : Action) → IsIn e (entries_in m) → (a : Action) → IsIn a (actions_of e) → IsIn (session_in a) (sessions_in m)
+entry-sessions m e there a i = each_action (λ (z : Action). IsIn (session_in z) (sessions_in m)) e (action-session m e there) a i
 
 -- a known entry, as it is proposed
 pub record IsListed (known : Known) (p : Proposed) : Type 0 where
-  pub entry : Entry
-  pub fits : EntryFits entry
+  pub entry : Action
+  pub fits : ActionFits entry
   pub is : p ≡ proposed_of entry
   pub sessions : (a : Action) → IsIn a (actions_of entry) → IsIn (session_in a) known.sessions
   pub listed : IsIn entry known.entries
@@ -120,7 +122,7 @@ module _ {M : Type 0} (site : Site M) (sound : IsSoundSite site) (known : Known)
         | inr voted ↦ l.voted e.1.session voted
       ]
 
-  due-ours : (t : List (Mark M)) (entry : Entry) → AllMade site me t → AllWithin site known me t → IsLocal t → IsDueFrom site.setup (view_at site me t).bench.pool entry → IsOurs known (session_in entry)
+  due-ours : (t : List (Mark M)) (entry : Action) → AllMade site me t → AllWithin site known me t → IsLocal t → IsDueFrom site.setup (view_at site me t).bench.pool entry → IsOurs known (session_in entry)
   due-ours t entry made within l d =
       let o = pooled-ours t d.0 made within l d.1 in
       elim d.2 [
@@ -129,7 +131,7 @@ module _ {M : Type 0} (site : Site M) (sound : IsSoundSite site) (known : Known)
       ]
 
   -- what is due is known, and read back
-  pub due-read : (t : List (Mark M)) (entry : Entry) → AllMade site me t → AllWithin site known me t → IsLocal t → IsDueFrom site.setup (view_at site me t).bench.pool entry → site.entry_in (site.proposed_of entry) ≡ entry
+  pub due-read : (t : List (Mark M)) (entry : Action) → AllMade site me t → AllWithin site known me t → IsLocal t → IsDueFrom site.setup (view_at site me t).bench.pool entry → site.entry_in (site.proposed_of entry) ≡ entry
   due-read t entry made within l d = ap site.entry_in (sound.proposes entry) ∙ sound.reads entry (entry-fits entry (due-ours t entry made within l d).0)
 
   -- the entries that a deed hands in
@@ -157,7 +159,7 @@ module _ {M : Type 0} (site : Site M) (sound : IsSoundSite site) (known : Known)
               entry = due.entry;
               fits = entry-fits due.entry o.0;
               is = same ∙ due.is ∙ sound.proposes due.entry;
-              sessions = each_action (λ (e : Entry). IsIn (session_in e) known.sessions) due.entry o.1;
+              sessions = each_action (λ (e : Action). IsIn (session_in e) known.sessions) due.entry o.1;
               listed = subst (λ z. IsIn z known.entries) read (in_known (site.entry_in proposed) (inl refl));
             }
         | inr candidate ↦
@@ -172,8 +174,8 @@ module _ {M : Type 0} (site : Site M) (sound : IsSoundSite site) (known : Known)
       l.held p (sound.holds.logged site.setup.f me.index (deeds_in t) (deeds-kept t made) slot p at)
 
   -- what was executed is known
-  pub record IsDone (entry : Entry) : Type 0 where
-    pub fits : EntryFits entry
+  pub record IsDone (entry : Action) : Type 0 where
+    pub fits : ActionFits entry
     pub session : IsIn (session_in entry) known.sessions
     pub listed : IsIn entry known.entries
 
@@ -182,11 +184,11 @@ module _ {M : Type 0} (site : Site M) (sound : IsSoundSite site) (known : Known)
       let p = chosen-listed t slot made.0.proposed made.1 l made.0.chosen in
       let same : site.entry_in made.0.proposed ≡ p.entry = ap site.entry_in p.is ∙ sound.reads p.entry p.fits in
       let within : IsIn action (actions_of p.entry) =
-      subst (λ (e : Entry). IsIn action (actions_of e)) same (got-in (actions_of (site.entry_in made.0.proposed)) place action made.0.within) in
+      subst (λ (e : Action). IsIn action (actions_of e)) same (got-in (actions_of (site.entry_in made.0.proposed)) place action made.0.within) in
       record {
-        fits = each_action EntryFits p.entry p.fits action within;
+        fits = each_action ActionFits p.entry p.fits action within;
         session = p.sessions action within;
-        listed = each_action (λ (e : Entry). IsIn e known.entries) p.entry p.listed action within;
+        listed = each_action (λ (e : Action). IsIn e known.entries) p.entry p.listed action within;
       }
 
   pub local : (t : List (Mark M)) → AllMade site me t → AllWithin site known me t → IsLocal t

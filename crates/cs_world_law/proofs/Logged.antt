@@ -5,10 +5,11 @@ use Rattle.std.proofs.lemmas.List.{length_push, map_push, length-map}
 use Rattle.std.proofs.lemmas.List.Elements.{All-push}
 use Rattle.cs_base.specs.declared.node_id.NodeId.{NodeId}
 use Rattle.cs_tx_value.specs.Object.{DigestFits}
-use Rattle.cs_tx_types.specs.declared.entry.Entry.{Entry}
+use Rattle.cs_tx_types.specs.declared.action.Action.{Action}
 use Rattle.cs_tx_types.specs.declared.leaf.Leaf.{Leaf}
+use Rattle.cs_base.specs.declared.version.Version.TheVariants.{One}
 use Rattle.cs_tx_types.specs.Log.{leaf_encoding, LeafFits}
-use Rattle.cs_tx_types.specs.Session.{EntryFits}
+use Rattle.cs_tx_types.specs.Session.{ActionFits}
 use Rattle.cs_check_rules.specs.Chain.{Log, empty_log, with_slot}
 use Rattle.cs_check_rules.specs.Root.{root_under}
 use Rattle.cs_ledger.specs.Table.{Effect}
@@ -23,7 +24,7 @@ use Rattle.cs_node_law.proofs.Heads.{root_hashed}
 use Rattle.cs_world_law.specs.Steps.{executions_in}
 use Rattle.cs_world_law.specs.Shown.{leaf_by, leaves_of}
 
-abbrev pub entry_at : Execution → Entry
+abbrev pub entry_at : Execution → Action
 entry_at e = e.entry
 
 -- ---- executions and their leaves
@@ -37,7 +38,7 @@ entries-in shard (Viewed slot view ∷ past) = entries-in shard past
 entries-in shard (Headed number head ∷ past) = entries-in shard past
 entries-in shard (Kept index checkpoint ∷ past) = entries-in shard past
 entries-in shard (Sent to message ∷ past) = entries-in shard past
-entries-in shard (Did slot place entry effect ∷ past) = ap (λ (l : List Entry). entry ∷ l) (entries-in shard past)
+entries-in shard (Did slot place entry effect ∷ past) = ap (λ (l : List Action). entry ∷ l) (entries-in shard past)
 
 pub executions-count : (shard : ℕ) (signs : List Sign) → length (executions_in shard signs) ≡ length (log_in signs)
 executions-count shard signs = sym (length-map (executions_in shard signs) entry_at) ∙ ap length (entries-in shard signs)
@@ -63,7 +64,7 @@ module _ {M : Type 0} (site : Site M) (me : NodeId) where
   by-sign P more (Did slot place entry effect) t h =
       let v = view_at site me t in
       let ran = executed site.setup v.me.shard v.bench entry in
-      more v.bench.log (leaf_encoding (next_leaf v.bench entry ran.effect)) (root_under ran.bench.keys ran.bench.table) (root_hashed _) h
+      more v.bench.log (leaf_encoding One (next_leaf v.bench entry ran.effect)) (root_under ran.bench.keys ran.bench.table) (root_hashed _) h
 
   pub by-slots : (P : Log → Type 0) → P (empty_log me.shard) → ((log : Log) (leaf root : List ℕ) → DigestFits root → P log → P (with_slot leaf root log))
       → (t : List (Mark M)) → P (LogAt t)
@@ -76,7 +77,7 @@ module _ {M : Type 0} (site : Site M) (me : NodeId) where
   DoneAt t = executions_in me.shard (signs_of t)
 
   -- leaf by leaf
-  pub leaves-kept : (t : List (Mark M)) → AllMade site me t → (LogAt t).leaves ≡ map leaf_encoding (leaves_of (DoneAt t))
+  pub leaves-kept : (t : List (Mark M)) → AllMade site me t → (LogAt t).leaves ≡ map (leaf_encoding One) (leaves_of (DoneAt t))
   leaves-kept [] made = refl
   leaves-kept (In input ∷ t) made = leaves-kept t made.1
   leaves-kept (Ordered deed ∷ t) made = leaves-kept t made.1
@@ -94,25 +95,25 @@ module _ {M : Type 0} (site : Site M) (me : NodeId) where
       let now : Execution = record { shard = me.shard; slot = slot; place = place; entry = entry; effect = effect } in
       let before = leaves-kept t made.1 in
       let next : length v.bench.log.leaves ≡ slot =
-      ap length before ∙ length-map past leaf_encoding ∙ leaf-count (DoneAt t) ∙ executions-count me.shard (signs_of t) ∙ sym (next-slot site v (signs_of t) slot place entry effect made.0) in
+      ap length before ∙ length-map past (leaf_encoding One) ∙ leaf-count (DoneAt t) ∙ executions-count me.shard (signs_of t) ∙ sym (next-slot site v (signs_of t) slot place entry effect made.0) in
       let came : ran.effect ≡ effect = sym made.0.computed in
       let is : next_leaf v.bench entry ran.effect ≡ leaf_by now =
-      ap (λ (n : ℕ). let l : Leaf = record { slot = n; entry = entry; result = effect_from ran.effect } in l) next
-      ∙ ap (λ (e : Effect). let l : Leaf = record { slot = slot; entry = entry; result = effect_from e } in l) came in
-      ap (λ (l : List (List ℕ)). l ++ leaf_encoding (next_leaf v.bench entry ran.effect) ∷ []) before
-      ∙ ap (λ (l : Leaf). map leaf_encoding past ++ leaf_encoding l ∷ []) is
-      ∙ sym (map_push leaf_encoding past (leaf_by now))
+      ap (λ (n : ℕ). let l : Leaf = record { slot = n; place = 0; action = entry; result = effect_from ran.effect } in l) next
+      ∙ ap (λ (e : Effect). let l : Leaf = record { slot = slot; place = 0; action = entry; result = effect_from e } in l) came in
+      ap (λ (l : List (List ℕ)). l ++ leaf_encoding One (next_leaf v.bench entry ran.effect) ∷ []) before
+      ∙ ap (λ (l : Leaf). map (leaf_encoding One) past ++ leaf_encoding One l ∷ []) is
+      ∙ sym (map_push (leaf_encoding One) past (leaf_by now))
 
   -- ---- each of them has an encoding
 
   abbrev pub AreEntries : List Sign → Type 0
-  AreEntries signs = (entry : Entry) → Executed signs entry → EntryFits entry
+  AreEntries signs = (entry : Action) → Executed signs entry → ActionFits entry
 
   entries-before : (sign : Sign) (past : List Sign) → AreEntries (sign ∷ past) → AreEntries past
   entries-before sign past all entry e =
       all entry (record { slot = e.slot; place = e.place; effect = e.effect; later = sign ∷ e.later; earlier = e.earlier; split = ap (λ (l : List Sign). sign ∷ l) e.split })
 
-  pub leaves-fit : (t : List (Mark M)) → AllMade site me t → AreEntries (signs_of t) → length (DoneAt t) ≤ 2 ^ 64 → All LeafFits (leaves_of (DoneAt t))
+  pub leaves-fit : (t : List (Mark M)) → AllMade site me t → AreEntries (signs_of t) → length (DoneAt t) ≤ 2 ^ 64 → All (LeafFits One) (leaves_of (DoneAt t))
   leaves-fit [] made all few = λ i d below. absurd (omega (arith, below))
   leaves-fit (In input ∷ t) made all few = leaves-fit t made.1 all few
   leaves-fit (Ordered deed ∷ t) made all few = leaves-fit t made.1 all few
@@ -128,6 +129,6 @@ module _ {M : Type 0} (site : Site M) (me : NodeId) where
       let fewer : length (DoneAt t) ≤ 2 ^ 64 = omega (arith, few) in
       let below : slot < 2 ^ 64 = omega (arith, few, next-slot site (view_at site me t) past slot place entry effect made.0, executions-count me.shard past) in
       let fits = all entry (record { slot = slot; place = place; effect = effect; later = []; earlier = past; split = refl }) in
-      All-push LeafFits (leaves_of (DoneAt t)) (leaf_by (record { shard = me.shard; slot = slot; place = place; entry = entry; effect = effect }))
+      All-push (LeafFits One) (leaves_of (DoneAt t)) (leaf_by (record { shard = me.shard; slot = slot; place = place; entry = entry; effect = effect }))
       (leaves-fit t made.1 (entries-before (Did slot place entry effect) past all) fewer)
-      (record { slot = below; entry = fits })
+      (record { slot = below; place = refl; action = fits })

@@ -2,7 +2,7 @@
 use Rattle.std.proofs.Common.{◌≡◌, ℕ, suc, ◌<◌, ◌≤◌, ◌==◌, nat_lt, nat_le, Bool, true, false, if◌then◌else◌, List, [], ◌∷◌, ◌++◌, length, map, Option, Some, None, arith, sym, ◌∙◌, ap, subst, refl}
 use Rattle.std.proofs.lemmas.Bool.{eqb-true, or_right}
 use Rattle.std.proofs.lemmas.List.{length-map}
-use Rattle.cs_tx_types.specs.declared.entry.Entry.{Entry}
+use Rattle.cs_tx_types.specs.declared.action.Action.{Action}
 use Rattle.cs_ledger.specs.Ledger.{Bytes}
 use Rattle.cs_ledger.specs.Session.{Rules}
 use Rattle.cs_ledger.specs.Table.{Vote, Effect}
@@ -188,7 +188,7 @@ map-at {A} {B} f (d ∷ log) n a e =
 
 -- ---- what holds of an older part
 
-pub older-votes : (setup : Setup) (rules : Rules) (shard : ℕ) (d : Bytes) (vote : Vote) (n : ℕ) (log : List Entry) → votes_in rules shard d vote (seen setup (older n log)) ≡ true → votes_in rules shard d vote (seen setup log) ≡ true
+pub older-votes : (setup : Setup) (rules : Rules) (shard : ℕ) (d : Bytes) (vote : Vote) (n : ℕ) (log : List Action) → votes_in rules shard d vote (seen setup (older n log)) ≡ true → votes_in rules shard d vote (seen setup log) ≡ true
 older-votes setup rules shard d vote n [] h = h
 older-votes setup rules shard d vote n (e ∷ log) h = found (nat_le n (length log)) (older-votes setup rules shard d vote n log) h
   where
@@ -196,7 +196,7 @@ older-votes setup rules shard d vote n (e ∷ log) h = found (nat_le n (length l
     found true later h = or_right _ _ (later h)
     found false later h = h
 
-pub older-decided : (setup : Setup) (rules : Rules) (shard : ℕ) (d : Bytes) (effect : Effect) (n : ℕ) (log : List Entry) → decided_in rules shard d effect (seen setup (older n log)) ≡ true → decided_in rules shard d effect (seen setup log) ≡ true
+pub older-decided : (setup : Setup) (rules : Rules) (shard : ℕ) (d : Bytes) (effect : Effect) (n : ℕ) (log : List Action) → decided_in rules shard d effect (seen setup (older n log)) ≡ true → decided_in rules shard d effect (seen setup log) ≡ true
 older-decided setup rules shard d effect n [] h = h
 older-decided setup rules shard d effect n (e ∷ log) h = found (nat_le n (length log)) (older-decided setup rules shard d effect n log) h
   where

@@ -2,7 +2,7 @@
 use Rattle.std.proofs.Common.{◌≡◌, ℕ, ◌==◌, nat_le, Bool, true, false, if◌then◌else◌, List, [], ◌∷◌, ◌++◌, length, map, refl, sym, ap, ◌∙◌}
 use Rattle.std.proofs.lemmas.Bool.{eqb-true}
 use Rattle.cs_base.specs.declared.node_id.NodeId.{NodeId}
-use Rattle.cs_tx_types.specs.declared.entry.Entry.{Entry}
+use Rattle.cs_tx_types.specs.declared.action.Action.{Action}
 use Rattle.cs_ledger.specs.Table.{exec, table_of}
 use Rattle.cs_node_state.specs.Setup.{Setup, entry_of}
 use Rattle.cs_node_rules.specs.Signs.{Dropped, Took, Entered, Viewed, Did, Headed, Kept, Sent}
@@ -55,7 +55,7 @@ module _ (setup : Setup) (shard : ℕ) where
           let effect : e.effect ≡ (next_execution (run_of e) (shard_runs shard earlier)).effect =
           computed.0.effect
           ∙ ap (λ k. effect_after setup earlier k e.entry) here
-          ∙ ap (λ l. (exec setup.rules shard (table_of setup.rules shard l) (entry_of setup e.entry)).effect) (log-seen setup shard earlier ∙ ap (λ (l : List Entry). seen setup l) (sym (shard-actions shard earlier))) in
+          ∙ ap (λ l. (exec setup.rules shard (table_of setup.rules shard l) (entry_of setup e.entry)).effect) (log-seen setup shard earlier ∙ ap (λ (l : List Action). seen setup l) (sym (shard-actions shard earlier))) in
           λ k. record { shard = here k; slot = e.slot; place = e.place; entry = e.entry; effect = effect k }
 
       go : (b : Bool) → (e.shard == shard) ≡ b → executions_of shard earlier ≡ executions (shard_runs shard earlier)
@@ -78,7 +78,7 @@ own-made {M} site me (Plain (Sent to said) ∷ t) made = own-made site me t made
 own-made {M} site me (Plain (Did slot place entry effect) ∷ t) made =
     let result : effect ≡ (next_execution site.setup me.shard (record { slot = slot; place = place; action = entry }) (runs_in (signs_of t))).effect =
     came site me t slot place entry effect made
-    ∙ ap (λ (l : List Entry). (exec site.setup.rules me.shard (table_of site.setup.rules me.shard (seen site.setup l)) (entry_of site.setup entry)).effect) (sym (own-actions (signs_of t))) in
+    ∙ ap (λ (l : List Action). (exec site.setup.rules me.shard (table_of site.setup.rules me.shard (seen site.setup l)) (entry_of site.setup entry)).effect) (sym (own-actions (signs_of t))) in
     let before = own-made site me t made.1 in
     λ k. record { shard = me.shard; slot = slot; place = place; entry = entry; effect = result k } ∷ before k
 

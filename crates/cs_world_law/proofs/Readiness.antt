@@ -4,8 +4,8 @@ use Rattle.std.proofs.lemmas.Bool.{and_parts, and_from, eqb-true}
 use Rattle.cs_base.specs.declared.node_id.NodeId.{NodeId}
 use Rattle.cs_tx_types.specs.declared.session.Session.{Session}
 use Rattle.cs_tx_types.specs.declared.vote.Vote.TheVariants as tx
-use Rattle.cs_tx_types.specs.declared.entry.Entry.{Entry}
-use Rattle.cs_tx_types.specs.declared.entry.Entry.TheVariants.{Prepare, Decide}
+use Rattle.cs_tx_types.specs.declared.action.Action.{Action}
+use Rattle.cs_tx_types.specs.declared.action.Action.TheVariants.{Prepare, Decide}
 use Rattle.cs_base.specs.Lists.{IsIn}
 use Rattle.cs_ledger.specs.Session as Seen
 use Rattle.cs_ledger.specs.Session.{Key, Piece, anchor, used_up, read_only, objects_in, all_items}
@@ -88,7 +88,7 @@ log-append (Did slot place entry effect ∷ a) b = ap (λ l. entry ∷ l) (log-a
 
 -- ---- an execution among the first ones
 
-pub record IsSplit (shard : ℕ) (own : List Entry) (entry : Entry) (firsts : List Execution) : Type 0 where
+pub record IsSplit (shard : ℕ) (own : List Action) (entry : Action) (firsts : List Execution) : Type 0 where
   pub later : List Execution
   pub first : Execution
   pub earlier : List Execution
@@ -97,7 +97,7 @@ pub record IsSplit (shard : ℕ) (own : List Entry) (entry : Entry) (firsts : Li
   pub entry_is : first.entry ≡ entry
   pub log : shard_entries shard earlier ≡ own
 
-split-at : (shard : ℕ) (own : List Entry) (entry : Entry) (n : ℕ) (firsts : List Execution) → own ≡ older n (shard_entries shard firsts) → at_slot (shard_entries shard firsts) n ≡ Some entry → IsSplit shard own entry firsts
+split-at : (shard : ℕ) (own : List Action) (entry : Action) (n : ℕ) (firsts : List Execution) → own ≡ older n (shard_entries shard firsts) → at_slot (shard_entries shard firsts) n ≡ Some entry → IsSplit shard own entry firsts
 split-at shard own entry n [] is there = absurd cc
 split-at shard own entry n (e ∷ earlier) is there = go (e.shard == shard) refl (split-at shard own entry n earlier) is there
   where
@@ -148,7 +148,7 @@ free-commits rules shard t x key well among is ready unvoted room =
     ∙ ap (λ b. if b then Shard.voted (Shard.with_locks t d used read) Shard.Commit else Shard.voted (Shard.with_vote t key d Shard.Abort) Shard.Abort) ready
 
 -- what an execution came to on the table before it
-pub came : {M : Type 0} (site : Site M) (known : Known) (me : NodeId) (t : List (Mark M)) → AllMade site me t → AllWithin site known me t → (entry : Entry) (e : Executed (signs_of t) entry)
+pub came : {M : Type 0} (site : Site M) (known : Known) (me : NodeId) (t : List (Mark M)) → AllMade site me t → AllWithin site known me t → (entry : Action) (e : Executed (signs_of t) entry)
     → e.effect ≡ (exec site.setup.rules me.shard (bench_at site.setup me.shard e.earlier).table (entry_of site.setup entry)).effect
 came {M} site known me t made within entry e =
     let c = part site known me t e.later (Did e.slot e.place entry e.effect) e.earlier made within e.split in
@@ -158,7 +158,7 @@ came {M} site known me t made within entry e =
     ∙ ap (λ (u : Table). (exec site.setup.rules me.shard u (entry_of site.setup entry)).effect) (sym table)
 
 module _ {M : Type 0} (site : Site M) (sound : IsSoundSite site) (known : Known) (lawful : AreLawful site known) (story : List (Moment M)) (story_is : Story site known story) (i : NodeId) (honest : is_honest site i ≡ true) where
-  module _ (entry : Entry) (e : Executed (signs_of (trail_at i story)) entry) where
+  module _ (entry : Action) (e : Executed (signs_of (trail_at i story)) entry) where
     pub split : IsSplit i.shard (log_in e.earlier) entry (story_firsts story)
     split =
         let own = (are-first site sound known lawful i.shard story story_is).older i honest refl in

@@ -12,6 +12,7 @@ use Rattle.cs_tx_types.specs.declared.vote.Vote as Tx
 use Rattle.cs_tx_types.specs.Session.{SessionFits}
 use Rattle.cs_wire_message.specs.declared.message.Message.{Message}
 use Rattle.cs_wire_message.specs.declared.message.Message.TheVariants as message
+use Rattle.cs_base.specs.declared.version.Version.TheVariants.{One}
 use Rattle.cs_wire_message.specs.Message.{MessageFits}
 use Rattle.cs_order.specs.declared.proposed.Proposed.{Proposed}
 use Rattle.cs_base.specs.Lists.{IsIn}
@@ -21,6 +22,7 @@ use Rattle.cs_order.specs.Digests.{digest_fits}
 use Rattle.cs_order.specs.Deeds.{Deed, Took_in, Advanced, Echoed, Proposing, Ticked, Resent, Replied, Cut, Member, sent_by}
 use Rattle.cs_order.specs.Runs.{Act, KeepsRules, AllKeepRules, IsFor, HandedOut, Genuine, IsRun, deeds_of, entries_handed_in, held_in, handed_in, EntriesToldApart, Follows as Next}
 use Rattle.cs_order.specs.Law.{IsLawful}
+use Rattle.cs_tx_types.specs.Entry.{entry_alone}
 use Rattle.cs_tx.specs.Digest.{digest_of_entry}
 use Rattle.cs_ledger.specs.Ledger.{Bytes}
 use Rattle.cs_ledger.specs.Table.{Vote}
@@ -56,11 +58,11 @@ handed-of {M} from to m (act ∷ acts) h = go (act.member == from) refl (handed-
 
 -- an entry has a digest
 pub entry-digest : (p : Proposed) → IsEntry p → digest_fits p.digest ≡ true
-entry-digest p is = rw is.is (digest-passes (digest_of_entry is.entry) (length-sha256 _, bytes-sha256 _))
+entry-digest p is = rw is.is (digest-passes (digest_of_entry One (entry_alone is.entry)) (length-sha256 _, bytes-sha256 _))
 
 -- a message of the order that one of these deeds handed out
 pub record IsOrdered {M : Type 0} (site : Site M) (to : ℕ) (said : Message) (deeds : List (Deed M)) : Type 0 where
-  pub fits : MessageFits said
+  pub fits : MessageFits One said
   pub ordering : is_ordering said ≡ true
   pub back : (m : M) → site.carrier.read said ≡ Some m → HandedBy m to deeds
 
@@ -72,7 +74,7 @@ handed-is {M} site sound me to said (deed ∷ past) kept all (inl now) =
     let proper = sound.holds.proper site.setup.f me deed past kept (λ p i. entry-digest p (all p i)) m to now.1.0 in
     let entries = λ (p : Proposed) (i : IsIn p (site.machine.carried m)). all p (sound.holds.sent site.setup.f me deed past kept m to now.1.0 p i) in
     record {
-      fits = subst MessageFits now.1.1 (sound.carries.fits m);
+      fits = subst (MessageFits One) now.1.1 (sound.carries.fits m);
       ordering = subst (λ z. is_ordering z ≡ true) now.1.1 (sound.carries.ours m proper entries);
       back = λ other reads.
           let q : Some m ≡ Some other = sym (sound.carries.back m proper entries) ∙ ap site.carrier.read now.1.1 ∙ reads in
@@ -182,7 +184,7 @@ module _ {M : Type 0} (site : Site M) (sound : IsSoundSite site) (known : Known)
             inl (h.0, subst (λ z. IsOrdered site i.index z (deeds_in t)) (sym same) o)
         | inr w ↦ elim w as (λ z. IsTold i sender past said) [
           | inl c ↦
-              let same = sound.exact sender i sender s.said said there here (subst MessageFits (sym c.is) c.fits) opens in
+              let same = sound.exact sender i sender s.said said there here (subst (MessageFits One) (sym c.is) c.fits) opens in
               inr (inl (record { vote = c.vote; asks = c.asks; x = c.x; is = same ∙ c.is; given = c.given; fits = c.fits }))
           | inr other ↦ elim other as (λ z. IsTold i sender past said) [
             | inl want ↦ inr (inr (inl (sound.wanted sender i sender want.0 said there here (subst Opens want.1 opens))))

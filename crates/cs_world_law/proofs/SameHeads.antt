@@ -3,8 +3,9 @@ use Rattle.std.proofs.Common.{◌≡◌, ℕ, List, [], ◌∷◌, ◌++◌, len
 use Rattle.std.proofs.lemmas.List.{map-append}
 use Rattle.cs_base.specs.Lists.{IsIn}
 use Rattle.cs_base.specs.declared.node_id.NodeId.{NodeId}
-use Rattle.cs_tx_types.specs.declared.entry.Entry.{Entry}
+use Rattle.cs_tx_types.specs.declared.action.Action.{Action}
 use Rattle.cs_tx_types.specs.declared.leaf.Leaf.{Leaf}
+use Rattle.cs_base.specs.declared.version.Version.TheVariants.{One}
 use Rattle.cs_tx_types.specs.Log.{leaf_encoding}
 use Rattle.cs_check_rules.specs.Chain.{Log, with_slot}
 use Rattle.cs_check_rules.specs.Keys.{keys_after}
@@ -33,14 +34,14 @@ Core = Table × (List Key × Log)
 abbrev pub core_of : Bench → Core
 core_of b = (b.table, (b.keys, b.log))
 
-abbrev pub core_after : Setup → ℕ → Core → Entry → Core
+abbrev pub core_after : Setup → ℕ → Core → Action → Core
 core_after setup shard core entry =
     let out = exec setup.rules shard core.0 (entry_of setup entry) in
     let keys = keys_after setup.rules shard core.0 (entry_of setup entry) core.1.0 in
-    let leaf : Leaf = record { slot = length core.1.1.leaves; entry = entry; result = effect_from out.effect } in
-    (out.table, (keys, with_slot (leaf_encoding leaf) (root_under keys out.table) core.1.1))
+    let leaf : Leaf = record { slot = length core.1.1.leaves; place = 0; action = entry; result = effect_from out.effect } in
+    (out.table, (keys, with_slot (leaf_encoding One leaf) (root_under keys out.table) core.1.1))
 
-abbrev pub core_by : Setup → ℕ → List Entry → Core
+abbrev pub core_by : Setup → ℕ → List Action → Core
 core_by setup shard [] = core_of (start_bench setup shard)
 core_by setup shard (entry ∷ past) = core_after setup shard (core_by setup shard past) entry
 
@@ -62,14 +63,14 @@ core-is {M} site me (Plain (Did slot place entry effect) ∷ t) =
 -- ---- heads of a log are those of every longer one
 
 module _ (setup : Setup) (shard : ℕ) where
-  abbrev pub LogBy : List Entry → Log
+  abbrev pub LogBy : List Action → Log
   LogBy entries = (core_by setup shard entries).1.1
 
-  of-by : (entries : List Entry) → IsOf shard (LogBy entries)
+  of-by : (entries : List Action) → IsOf shard (LogBy entries)
   of-by [] = of-start shard
   of-by (entry ∷ past) = of-next shard (LogBy past) _ _ (root_hashed _) (of-by past)
 
-  stays-by : (newer entries : List Entry) (number : ℕ) (head : Bytes) → IsHead (LogBy entries) number head → IsHead (LogBy (newer ++ entries)) number head
+  stays-by : (newer entries : List Action) (number : ℕ) (head : Bytes) → IsHead (LogBy entries) number head → IsHead (LogBy (newer ++ entries)) number head
   stays-by [] entries number head h = h
   stays-by (entry ∷ newer) entries number head h =
       head-stays shard (LogBy (newer ++ entries)) _ _ number head (of-by (newer ++ entries)) (stays-by newer entries number head h)
@@ -84,6 +85,6 @@ head-by {M} site me t all made part number head noted =
     let here : IsHead (LogBy site.setup me.shard (log_in (signs_of t))) number head =
     subst (λ (k : Core). IsHead k.1.1 number head) (core-is site me t) h in
     let entries : map entry_at all ≡ map entry_at part.newer ++ log_in (signs_of t) =
-    ap (map entry_at) part.is ∙ map-append entry_at part.newer own ∙ ap (λ (l : List Entry). map entry_at part.newer ++ l) (entries-in me.shard (signs_of t)) in
-    subst (λ (l : List Entry). IsHead (LogBy site.setup me.shard l) number head) (sym entries)
+    ap (map entry_at) part.is ∙ map-append entry_at part.newer own ∙ ap (λ (l : List Action). map entry_at part.newer ++ l) (entries-in me.shard (signs_of t)) in
+    subst (λ (l : List Action). IsHead (LogBy site.setup me.shard l) number head) (sym entries)
     (stays-by site.setup me.shard (map entry_at part.newer) (log_in (signs_of t)) number head here)

@@ -8,7 +8,7 @@ use Rattle.cs_tx_types.specs.declared.session.Session.{Session}
 use Rattle.cs_tx_types.specs.declared.vote.Vote.{Vote}
 use Rattle.cs_tx_types.specs.declared.vote.Vote.TheVariants.{Commit}
 use Rattle.cs_tx_types.specs.declared.checkpoint.Checkpoint.{Checkpoint}
-use Rattle.cs_tx_types.specs.declared.entry.Entry.{Entry}
+use Rattle.cs_tx_types.specs.declared.action.Action.{Action}
 use Rattle.cs_wire_message.specs.declared.message.Message.{Message}
 use Rattle.cs_wire_message.specs.declared.message.Message.TheVariants as message
 use Rattle.cs_wire_message.specs.Classes.{Class, OfOrder, class_of}
@@ -27,7 +27,7 @@ use Rattle.cs_ledger.specs.Table.{Effect}
 use Rattle.cs_ledger.proofs.Basics.{in_left, in_right}
 use Rattle.cs_node_rules.proofs.Heard.{AllHeard, heard}
 use Rattle.cs_check_rules.specs.Chain.{head_of, made_last, kept_slots}
-use Rattle.cs_node_state.specs.Setup.{Action, actions_of, Setup, digest_of, concerned}
+use Rattle.cs_node_state.specs.Setup.{actions_of, Setup, digest_of, concerned}
 use Rattle.cs_tx_types.specs.Session.{session_in}
 use Rattle.cs_node_state.specs.Admission.{due}
 use Rattle.cs_node_rules.specs.Members.{is_other_member, others}
@@ -44,13 +44,13 @@ use Rattle.cs_world_law.proofs.Trails.{same-name}
 use Rattle.cs_world_law.proofs.Readiness.{bench-is}
 
 -- the votes that an execution of the entry sends
-abbrev pub votes_by : Setup → NodeId → Bench → Entry → List Sign
+abbrev pub votes_by : Setup → NodeId → Bench → Action → List Sign
 votes_by setup me b entry = vote_signs setup me (session_in entry) (vote_told setup me.shard (session_in entry) (executed setup me.shard b entry))
 
 -- whatever was executed, its votes were sent afterwards
 abbrev pub IsTelling : Setup → NodeId → List Sign → Type 0
 IsTelling setup me signs =
-    (later : List Sign) (slot place : ℕ) (entry : Entry) (effect : Effect) (earlier : List Sign) → signs ≡ later ++ Did slot place entry effect ∷ earlier →
+    (later : List Sign) (slot place : ℕ) (entry : Action) (effect : Effect) (earlier : List Sign) → signs ≡ later ++ Did slot place entry effect ∷ earlier →
     (sign : Sign) → IsIn sign (votes_by setup me (bench_at setup me.shard earlier) entry) → IsIn sign later
 
 -- ---- signs without executions
@@ -201,11 +201,11 @@ tell-over setup me (sign ∷ a) b none tells (other ∷ later) slot place entry 
     inr (tell-over setup me a b (no-tail sign a none) tells later slot place entry effect earlier rest s i)
 
 -- an execution after signs that have none is this one, or an earlier one
-abbrev IsThere : List Sign → List Sign → Sign → Entry → List Sign → Sign → Entry → List Sign → Type 0
+abbrev IsThere : List Sign → List Sign → Sign → Action → List Sign → Sign → Action → List Sign → Type 0
 IsThere front past this entry later that entry2 earlier =
     ((later ≡ front) × (entry ≡ entry2) × (past ≡ earlier)) ⊎ ((rest : List Sign) × (past ≡ rest ++ that ∷ earlier) × (later ≡ front ++ this ∷ rest))
 
-first-did : (front past : List Sign) (slot place : ℕ) (entry : Entry) (effect : Effect) (later : List Sign) (slot2 place2 : ℕ) (entry2 : Entry) (effect2 : Effect) (earlier : List Sign) → NoDid front
+first-did : (front past : List Sign) (slot place : ℕ) (entry : Action) (effect : Effect) (later : List Sign) (slot2 place2 : ℕ) (entry2 : Action) (effect2 : Effect) (earlier : List Sign) → NoDid front
     → front ++ Did slot place entry effect ∷ past ≡ later ++ Did slot2 place2 entry2 effect2 ∷ earlier → IsThere front past (Did slot place entry effect) entry later (Did slot2 place2 entry2 effect2) entry2 earlier
 first-did [] past slot place entry effect [] slot2 place2 entry2 effect2 earlier none e =
     let entries : entry ≡ entry2 = cc in
@@ -226,7 +226,7 @@ first-did (sign ∷ front) past slot place entry effect (other ∷ later) slot2 
       | inr r ↦ inr (r.0, r.1, ap (λ l. other ∷ l) r.2 ∙ ap (λ z. z ∷ (front ++ Did slot place entry effect ∷ r.0)) (sym same))
     ]
 
-tell-front : (setup : Setup) (me : NodeId) (front past : List Sign) (slot place : ℕ) (entry : Entry) (effect : Effect) → NoDid front → IsTelling setup me past
+tell-front : (setup : Setup) (me : NodeId) (front past : List Sign) (slot place : ℕ) (entry : Action) (effect : Effect) → NoDid front → IsTelling setup me past
     → ((s : Sign) → IsIn s (votes_by setup me (bench_at setup me.shard past) entry) → IsIn s front) → IsTelling setup me (front ++ Did slot place entry effect ∷ past)
 tell-front setup me front past slot place entry effect none tells here later slot2 place2 entry2 effect2 earlier e s i =
     elim (first-did front past slot place entry effect later slot2 place2 entry2 effect2 earlier none e) [
@@ -240,7 +240,7 @@ rejoin a b c d past =
     ∙ sym (append_assoc a (b ++ c) (d ∷ past) ∙ ap (λ l. a ++ l) (append_assoc b c (d ∷ past)))
 
 -- an execution tells
-tell-ran : (setup : Setup) (me : NodeId) (b : Bench) (slot place : ℕ) (entry : Entry) (past : List Sign) → bench_at setup me.shard past ≡ b → IsTelling setup me past
+tell-ran : (setup : Setup) (me : NodeId) (b : Bench) (slot place : ℕ) (entry : Action) (past : List Sign) → bench_at setup me.shard past ≡ b → IsTelling setup me past
     → IsTelling setup me (ran_signs setup me b slot place entry (session_in entry) (executed setup me.shard b entry) ++ past)
 tell-ran setup me b slot place entry past is tells =
     let x = session_in entry in
@@ -266,7 +266,7 @@ tell-actions setup me b slot place (action ∷ more) past is tells =
     (tell-actions setup me left slot (suc place) more (signs ++ past) here (tell-ran setup me b slot place action past is tells))
 
 -- with the checkpoint that it makes
-tell-execution : (setup : Setup) (me : NodeId) (b : Bench) (slot : ℕ) (entry : Entry) (past : List Sign) → bench_at setup me.shard past ≡ b → IsTelling setup me past → IsTelling setup me (execution_signs setup me b slot entry ++ past)
+tell-execution : (setup : Setup) (me : NodeId) (b : Bench) (slot : ℕ) (entry : Action) (past : List Sign) → bench_at setup me.shard past ≡ b → IsTelling setup me past → IsTelling setup me (execution_signs setup me b slot entry ++ past)
 tell-execution setup me b slot entry past is tells =
     let ran = actions_signs setup me b slot 0 (actions_of entry) in
     let made = made_last (bench_after setup me.shard ran b).log in
@@ -309,7 +309,7 @@ module _ {M : Type 0} (site : Site M) (me : NodeId) where
     TurnTells None = Unit {0}
     TurnTells (Some fresh) = Tells (fresh ++ t)
 
-    turn-due : (o : Option Entry) → TurnTells (due_marks site v o)
+    turn-due : (o : Option Action) → TurnTells (due_marks site v o)
     turn-due None = tt
     turn-due (Some entry) = with-deed (Proposing (site.proposed_of entry) (site.machine.proposing v.member (site.proposed_of entry)))
 

@@ -3,8 +3,8 @@ use Rattle.std.proofs.Common.{◌≡◌, ℕ, ◌<◌, ◌≤◌, ◌==◌, Bool
 use Rattle.std.proofs.lemmas.Bool.{cond_both, eqb-true}
 use Rattle.cs_base.specs.declared.node_id.NodeId.{NodeId}
 use Rattle.cs_tx_types.specs.declared.session.Session.{Session}
-use Rattle.cs_tx_types.specs.declared.entry.Entry.{Entry}
-use Rattle.cs_tx_types.specs.declared.entry.Entry.TheVariants.{Prepare, Decide}
+use Rattle.cs_tx_types.specs.declared.action.Action.{Action}
+use Rattle.cs_tx_types.specs.declared.action.Action.TheVariants.{Prepare, Decide}
 use Rattle.cs_ledger.specs.Ledger.{Bytes}
 use Rattle.cs_ledger.specs.Session.{all_items}
 use Rattle.cs_ledger.specs.Table.{Vote, Commit, exec, table_of}
@@ -73,14 +73,14 @@ module _ (setup : Setup) (bound : (name : Bytes) → setup.rules.shard_of name <
       all_are : (x : Session) → all_recorded setup (e ∷ earlier) x ≡ all_commit setup.rules (steps_of setup (e ∷ earlier)) (setup.session_of x)
       all_are x = all-recorded-is (e ∷ earlier) x computed
 
-      after : (entry : Entry) → e.entry ≡ entry → told_transactions setup earlier ≡ World.history setup.rules (steps_of setup earlier)
+      after : (entry : Action) → e.entry ≡ entry → told_transactions setup earlier ≡ World.history setup.rules (steps_of setup earlier)
           → told_after setup (e ∷ earlier) entry e.effect (told_transactions setup earlier) ≡ World.history_after setup.rules (steps_of setup (e ∷ earlier)) (entry_of setup entry) (World.history setup.rules (steps_of setup earlier))
       after (Decide vote x) is before = before
       after (Prepare x) is before =
           let all = all_are x in
-          let fine : IsAllowed setup.rules (steps_of setup earlier) e.shard (entry_of setup (Prepare x)) = subst (λ (z : Entry). IsAllowed setup.rules (steps_of setup earlier) e.shard (entry_of setup z)) is allowed.0 in
+          let fine : IsAllowed setup.rules (steps_of setup earlier) e.shard (entry_of setup (Prepare x)) = subst (λ (z : Action). IsAllowed setup.rules (steps_of setup earlier) e.shard (entry_of setup z)) is allowed.0 in
           let table = table_of setup.rules e.shard (log e.shard (steps_of setup earlier)) in
-          let came : e.effect ≡ (exec setup.rules e.shard table (entry_of setup (Prepare x))).effect = computed.0.effect ∙ ap (λ (z : Entry). (exec setup.rules e.shard table (entry_of setup z)).effect) is in
+          let came : e.effect ≡ (exec setup.rules e.shard table (entry_of setup (Prepare x))).effect = computed.0.effect ∙ ap (λ (z : Action). (exec setup.rules e.shard table (entry_of setup z)).effect) is in
           let shard_votes : is_voted e.effect ≡ true = ap is_voted came ∙ prepare-votes setup.rules e.shard table (setup.session_of x) fine.0 fine.1 in
           λ i. if shard_votes i && (all i && not (is_listed (setup.session_of x).transaction (before i))) then before i ++ (setup.session_of x).transaction ∷ [] else before i
 

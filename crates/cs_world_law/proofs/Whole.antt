@@ -7,7 +7,7 @@ use Rattle.cs_base.specs.declared.node_id.NodeId.{NodeId}
 use Rattle.cs_base.specs.NodeId.{is_node}
 use Rattle.cs_tx_value.specs.declared.object.Object.{Object}
 use Rattle.cs_tx_types.specs.declared.transaction.Tx.{Tx}
-use Rattle.cs_tx_types.specs.declared.entry.Entry.{Entry}
+use Rattle.cs_tx_types.specs.declared.action.Action.{Action}
 use Rattle.cs_order.specs.Deeds.{Machine}
 use Rattle.cs_order.specs.Law.{Law, Holds}
 use Rattle.cs_ledger.specs.Ledger.{Bytes}
@@ -122,7 +122,7 @@ module _ {M : Type 0} (machine : Machine M) (p : IsPlace machine) where
     within i = subst (λ t. AllWithin At Here i t) (trail-same i p.world) (within-all At Here i (moments p.world) story)
 
     -- what was executed is known
-    pub executed : (i : NodeId) (entry : Entry) → Executed (signs_at i p.world) entry → IsDone At sound Here i entry
+    pub executed : (i : NodeId) (entry : Action) → Executed (signs_at i p.world) entry → IsDone At sound Here i entry
     executed i entry e =
         let c = part At Here i (trail_of i p.world) e.later (Did e.slot e.place entry e.effect) e.earlier (made i) (within i) e.split in
         did-done At sound Here i c.before e.slot e.place entry e.effect c.made (local At sound Here i c.before c.made.1 c.within)

@@ -3,7 +3,7 @@ use Rattle.std.specs.Prelude.{◌≡◌, ℕ, ◌+◌, ◌*◌, ◌<◌, ◌≤�
 use Rattle.std.specs.List.{filter}
 use Rattle.cs_base.specs.declared.limits.TheConstants.{MOST_ECHOED}
 use Rattle.cs_base.specs.declared.node_id.NodeId.{NodeId}
-use Rattle.cs_tx_types.specs.declared.entry.Entry.{Entry}
+use Rattle.cs_tx_types.specs.declared.action.Action.{Action}
 use Rattle.cs_order.specs.Limits.{last_slot}
 use Rattle.cs_order.specs.declared.proposed.Proposed.{Proposed}
 use Rattle.cs_order_rules.specs.declared.message.OrderMessage.{OrderMessage}
@@ -59,7 +59,7 @@ pub record Agrees (admits : Proposed → Bool) (IsTold : OrderMessage → Type 0
 abbrev pub sight_at : Site OrderMessage → List (Happening OrderMessage) → NodeId → Sight
 sight_at site world i =
     let seen = sight (view_of site world i).member in
-    record seen { log = map (λ (run : ℕ × Entry). site.proposed_of run.1) (slots_with_entries (executed_by i world)) }
+    record seen { log = map (λ (run : ℕ × Action). site.proposed_of run.1) (slots_with_entries (executed_by i world)) }
 
 -- So it is of the order of each honest node, and what is told was sent to each other member.
 abbrev pub AllAgree : Site OrderMessage → List (Happening OrderMessage) → Type 0

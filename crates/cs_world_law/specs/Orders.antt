@@ -1,11 +1,11 @@
 -- What an honest node does of what its order chose and handed out.
 use Rattle.std.specs.Prelude.{◌≡◌, ℕ, suc, true, List, [], ◌∷◌, ◌++◌, map, Option, Some, None}
 use Rattle.cs_base.specs.declared.node_id.NodeId.{NodeId}
-use Rattle.cs_tx_types.specs.declared.entry.Entry.{Entry}
+use Rattle.cs_tx_types.specs.declared.action.Action.{Action}
 use Rattle.cs_order.specs.declared.answers.Outgoing.{Outgoing}
 use Rattle.cs_order.specs.Deeds.{Deed, sent_by, chosen_in}
 use Rattle.cs_base.specs.Lists.{IsIn}
-use Rattle.cs_node_state.specs.Setup.{Action, actions_of}
+use Rattle.cs_node_state.specs.Setup.{actions_of}
 use Rattle.cs_node_rules.specs.Members.{others}
 use Rattle.cs_node_rules.specs.Signs.{Sign, Sent}
 use Rattle.cs_node_rules.specs.Site.{Site}
@@ -15,7 +15,7 @@ use Rattle.cs_world_law.specs.Steps.{Run}
 use Rattle.cs_world_law.specs.Shown.{executed_by}
 
 -- their slots with the entries, the oldest first
-abbrev pub slots_with_entries : List Execution → List (ℕ × Entry)
+abbrev pub slots_with_entries : List Execution → List (ℕ × Action)
 slots_with_entries [] = []
 slots_with_entries (e ∷ earlier) = slots_with_entries earlier ++ (e.slot, e.entry) ∷ []
 
@@ -31,7 +31,7 @@ runs_from slot place (action ∷ more) =
     record { slot = slot; place = place; action = action } ∷ runs_from slot (suc place) more
 
 -- the actions of entries in their places, from a slot on
-abbrev pub runs_of : ℕ → List Entry → List Run
+abbrev pub runs_of : ℕ → List Action → List Run
 runs_of slot [] = []
 runs_of slot (entry ∷ more) = runs_from slot 0 (actions_of entry) ++ runs_of (suc slot) more
 

@@ -4,6 +4,7 @@ use Rattle.cs_base.specs.Lists.{IsIn}
 use Rattle.cs_base.specs.declared.node_id.NodeId.{NodeId}
 use Rattle.cs_tx_types.specs.declared.leaf.Leaf.{Leaf}
 use Rattle.cs_tx_types.specs.declared.proof.Proof.{Proof}
+use Rattle.cs_base.specs.declared.version.Version.TheVariants.{One}
 use Rattle.cs_tx_types.specs.Log.{leaf_encoding, ProofFits}
 use Rattle.cs_check_rules.specs.Chain.{covered_leaves, checkpoint_of}
 use Rattle.cs_check_rules.specs.Shown.{Shows, NoProofCollision}
@@ -16,7 +17,7 @@ use Rattle.cs_world_law.specs.Worlds.{is_honest, signs_at}
 use Rattle.cs_world_law.specs.Steps.{executions_in}
 
 abbrev pub leaf_by : Execution → Leaf
-leaf_by e = record { slot = e.slot; entry = e.entry; result = effect_from e.effect }
+leaf_by e = record { slot = e.slot; place = 0; action = e.entry; result = effect_from e.effect }
 
 -- the oldest first
 abbrev pub leaves_of : List Execution → List Leaf
@@ -31,7 +32,7 @@ executed_by {M} i world = executions_in i.shard (signs_at i world)
 abbrev pub KeepsExecuted : {M : Type 0} → Site M → List (Happening M) → Type 0
 KeepsExecuted {M} site world =
     (i : NodeId) → is_honest site i ≡ true →
-    (view_of site world i).bench.log.leaves ≡ map leaf_encoding (leaves_of (executed_by i world))
+    (view_of site world i).bench.log.leaves ≡ map (leaf_encoding One) (leaves_of (executed_by i world))
 
 -- the strings that are hashed for a node's checkpoint of that number, and for a proof, don't collide
 abbrev pub NoHeadCollision : {M : Type 0} → Site M → List (Happening M) → NodeId → ℕ → Proof → Type 0
@@ -44,7 +45,7 @@ abbrev pub ShowsExecuted : {M : Type 0} → Site M → List (Happening M) → Ty
 ShowsExecuted {M} site world =
     (i : NodeId) (number : ℕ) (head : Bytes) (proof : Proof) → is_honest site i ≡ true →
     length (executed_by i world) ≤ 2 ^ 64 → IsIn (Headed number head) (signs_at i world) →
-    ProofFits proof → NoHeadCollision site world i number proof → Shows head proof →
+    ProofFits One proof → NoHeadCollision site world i number proof → Shows head proof →
     IsIn proof.leaf (leaves_of (executed_by i world))
 
 -- No two honest nodes of a shard note different heads of one number.

@@ -3,11 +3,11 @@ use Rattle.std.specs.Prelude.{◌≡◌, ◌⊎◌, ℕ, suc, ◌==◌, true, if
 use Rattle.cs_base.specs.Lists.{IsIn}
 use Rattle.cs_base.specs.declared.node_id.NodeId.{NodeId}
 use Rattle.cs_tx_types.specs.declared.session.Session.{Session}
-use Rattle.cs_tx_types.specs.declared.entry.Entry.{Entry}
+use Rattle.cs_tx_types.specs.declared.action.Action.{Action}
 use Rattle.cs_ledger.specs.Ledger.{Bytes}
 use Rattle.cs_ledger.specs.Table.{Vote, Effect, Accepted, table_of, exec}
 use Rattle.cs_ledger.specs.ShardWorld.{log, AllAllowed}
-use Rattle.cs_node_state.specs.Setup.{Setup, Action, actions_of, digest_of, is_concerned_shard, entry_of}
+use Rattle.cs_node_state.specs.Setup.{Setup, actions_of, digest_of, is_concerned_shard, entry_of}
 use Rattle.cs_tx_types.specs.Session.{session_in}
 use Rattle.cs_node_rules.specs.Signs.{Sign, Dropped, Took, Entered, Viewed, Did, Headed, Kept, Sent}
 use Rattle.cs_node_rules.specs.Site.{Site}
@@ -24,7 +24,7 @@ abbrev pub StepsAllowed : {M : Type 0} → Site M → List (Happening M) → Typ
 StepsAllowed {M} site world = AllAllowed site.setup.rules (steps_of site.setup (firsts_of world))
 
 -- what an entry comes to on the table of the shard's log
-abbrev pub effect_after : Setup → List Execution → ℕ → Entry → Effect
+abbrev pub effect_after : Setup → List Execution → ℕ → Action → Effect
 effect_after setup earlier shard entry =
     let table = table_of setup.rules shard (log shard (steps_of setup earlier)) in
     (exec setup.rules shard table (entry_of setup entry)).effect
@@ -38,7 +38,7 @@ Follows slot place (Some e) =
 -- it is the next action of its shard, in its place of an entry, and its result is what it comes to there
 pub record IsComputed (setup : Setup) (earlier : List Execution) (e : Execution) : Type 0 where
   pub next : Follows e.slot e.place (newest_of e.shard earlier)
-  pub whole : Entry
+  pub whole : Action
   pub within : slice_get (actions_of whole) e.place ≡ Some e.entry
   pub effect : e.effect ≡ effect_after setup earlier e.shard e.entry
 

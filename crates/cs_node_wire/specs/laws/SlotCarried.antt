@@ -5,13 +5,16 @@ use Rattle.std.proofs.lemmas.Bool.{and_parts, and_from}
 use Rattle.cs_base.specs.declared.limits.TheConstants.{MOST_ECHOED}
 use Rattle.cs_base.specs.Fields.{IsBytes}
 use Rattle.cs_base.proofs.Forms.{whole-takes, whole-again, some_is}
+use Rattle.cs_tx_types.specs.declared.action.Action.{Action}
+use Rattle.cs_tx_types.specs.Session.{action_encoding, ActionFits}
+use Rattle.cs_tx_types.specs.Reading.{action_at}
+use Rattle.cs_tx_types.specs.laws.Session.{action_form}
 use Rattle.cs_tx_types.specs.declared.entry.Entry.{Entry}
-use Rattle.cs_tx_types.specs.Session.{entry_encoding, EntryFits}
-use Rattle.cs_tx_types.specs.Reading.{entry_at}
-use Rattle.cs_tx_types.specs.laws.Session.{entry_form}
+use Rattle.cs_tx_types.specs.Entry.{entry_alone}
 use Rattle.cs_wire_message.specs.declared.change.Change.{Change}
 use Rattle.cs_wire_message.specs.declared.message.Message.{Message}
 use Rattle.cs_wire_message.specs.declared.message.Message.TheVariants as message
+use Rattle.cs_base.specs.declared.version.Version.TheVariants.{One}
 use Rattle.cs_wire_message.specs.Message.{PreparedFits, is_after_last, Rise, IsSlot, IsView, MessageFits}
 use Rattle.cs_wire_message.proofs.Spelled.{entry-bytes}
 use Rattle.cs_base.specs.Lists.{IsIn}
@@ -29,7 +32,7 @@ use Rattle.cs_node_rules.specs.Collisions.{entries_in}
 use Rattle.cs_node_rules.specs.Deployment.{proposed_of}
 use Rattle.cs_node_rules.specs.Carrying.{is_ordering, IsEntry, Carries}
 use Rattle.cs_node_wire.specs.Proposals.{entry_read, entry_spelled}
-use Rattle.cs_node_wire.specs.SlotCarried.{blank, proposal_written, done_written, change_written, kind_written, slot_written, slot_read, slot_carrier}
+use Rattle.cs_node_wire.specs.SlotCarried.{blank, proposal_written, done_written, change_written, kind_written, slot_written, alone, proposal_read, done_read, slot_read, slot_carrier}
 
 -- ---- the limits of an order's messages are those of the messages of nodes
 
@@ -108,17 +111,17 @@ below-from view last (line ∷ lines) rise =
 
 -- a proper message is within the limits, where its entry is
 
-step-fits : (slot view : ℕ) (digest : List ℕ) → (is_place slot view && digest_fits digest) ≡ true → MessageFits (message.Echo slot view digest)
+step-fits : (slot view : ℕ) (digest : List ℕ) → (is_place slot view && digest_fits digest) ≡ true → MessageFits One (message.Echo slot view digest)
 step-fits slot view digest h =
     let p = and_parts (is_place slot view) (digest_fits digest) h in
     let place = place-fits slot view p.0 in
     (place.0, (place.1, digest-is digest p.1))
 
-fits-step : (slot view : ℕ) (digest : List ℕ) → MessageFits (message.Echo slot view digest) → (is_place slot view && digest_fits digest) ≡ true
+fits-step : (slot view : ℕ) (digest : List ℕ) → MessageFits One (message.Echo slot view digest) → (is_place slot view && digest_fits digest) ≡ true
 fits-step slot view digest h =
     and_from (is_place slot view) (digest_fits digest) (fits-place slot view h.0 h.1.0) (digest-passes digest h.1.1)
 
-change-fits : (slot view : ℕ) (c : OrderChange) → proper (order.Change slot view c) ≡ true → MessageFits (message.Change slot view (change_written c))
+change-fits : (slot view : ℕ) (c : OrderChange) → proper (order.Change slot view c) ≡ true → MessageFits One (message.Change slot view (change_written c))
 change-fits slot view c h =
     let few = nat_le (length c.echoed) MOST_ECHOED in
     let p = and_parts (is_place slot view && (nat_lt 0 view && pair_below view c.prepared)) ((rises c.echoed && few) && all_below view c.echoed) h in
@@ -141,7 +144,7 @@ change-fits slot view c h =
       ),
     )
 
-fits-change : (slot view : ℕ) (c : OrderChange) → MessageFits (message.Change slot view (change_written c)) → proper (order.Change slot view c) ≡ true
+fits-change : (slot view : ℕ) (c : OrderChange) → MessageFits One (message.Change slot view (change_written c)) → proper (order.Change slot view c) ≡ true
 fits-change slot view c h =
     let fits = h.1.1.1 in
     and_from _ _
@@ -150,58 +153,58 @@ fits-change slot view c h =
 
 -- ---- entries
 
-spelled-fits : (p : Proposed) (entry : Entry) → entry_spelled p ≡ Some entry → EntryFits entry
+spelled-fits : (p : Proposed) (entry : Action) → entry_spelled p ≡ Some entry → ActionFits entry
 spelled-fits p entry h = by_bytes (are_bytes p.bytes) refl h
   where
-    by_bytes : (b : Bool) → are_bytes p.bytes ≡ b → (if b then entry_read p else None) ≡ Some entry → EntryFits entry
-    by_bytes true pass k = (whole-takes entry_encoding EntryFits entry_at entry_form p.bytes entry (bytes-are p.bytes pass) k).0
+    by_bytes : (b : Bool) → are_bytes p.bytes ≡ b → (if b then entry_read p else None) ≡ Some entry → ActionFits entry
+    by_bytes true pass k = (whole-takes action_encoding ActionFits action_at action_form p.bytes entry (bytes-are p.bytes pass) k).0
     by_bytes false pass k = (let q : None ≡ Some entry = k in cc)
 
-spelled-again : (entry : Entry) → EntryFits entry → entry_spelled (proposed_of entry) ≡ Some entry
+spelled-again : (entry : Action) → ActionFits entry → entry_spelled (proposed_of entry) ≡ Some entry
 spelled-again entry fits =
-    ap (λ b. if b then entry_read (proposed_of entry) else None) (bytes-pass (entry_encoding entry) (entry-bytes entry fits))
-    ∙ whole-again entry_encoding EntryFits entry_at entry_form entry fits
+    ap (λ b. if b then entry_read (proposed_of entry) else None) (bytes-pass (action_encoding entry) (entry-bytes One (entry_alone entry) (refl, (fits, tt))))
+    ∙ whole-again action_encoding ActionFits action_at action_form entry fits
 
 spelled : (p : Proposed) (is : IsEntry p) → entry_spelled p ≡ Some is.entry
 spelled p is = ap entry_spelled is.is ∙ spelled-again is.entry is.fits
 
 -- ---- what is written fits
 
-blank-fits : MessageFits blank
+blank-fits : MessageFits One blank
 blank-fits = omega arith
 
-proposal-fits : (slot view : ℕ) (p : Proposed) (o : Option Entry) → is_place slot view ≡ true → entry_spelled p ≡ o → MessageFits (proposal_written slot view o)
+proposal-fits : (slot view : ℕ) (p : Proposed) (o : Option Action) → is_place slot view ≡ true → entry_spelled p ≡ o → MessageFits One (proposal_written slot view o)
 proposal-fits slot view p None place is = blank-fits
 proposal-fits slot view p (Some entry) place is =
     let fits = place-fits slot view place in
-    (fits.0, (fits.1, spelled-fits p entry is))
+    (fits.0, (fits.1, (refl, (spelled-fits p entry is, tt))))
 
-done-fits : (slot : ℕ) (p : Proposed) (o : Option Entry) → is_place slot 0 ≡ true → entry_spelled p ≡ o → MessageFits (done_written slot o)
+done-fits : (slot : ℕ) (p : Proposed) (o : Option Action) → is_place slot 0 ≡ true → entry_spelled p ≡ o → MessageFits One (done_written slot o)
 done-fits slot p None place is = blank-fits
-done-fits slot p (Some entry) place is = ((place-fits slot 0 place).0, spelled-fits p entry is)
+done-fits slot p (Some entry) place is = ((place-fits slot 0 place).0, (refl, (spelled-fits p entry is, tt)))
 
-kind-fits : (m : OrderMessage) → proper m ≡ true → MessageFits (kind_written m)
+kind-fits : (m : OrderMessage) → proper m ≡ true → MessageFits One (kind_written m)
 kind-fits (order.Propose slot view p) h = proposal-fits slot view p (entry_spelled p) h refl
 kind-fits (order.Echo slot view digest) h = step-fits slot view digest h
 kind-fits (order.Confirm slot view digest) h = step-fits slot view digest h
 kind-fits (order.Change slot view c) h = change-fits slot view c h
 kind-fits (order.Done slot p) h = done-fits slot p (entry_spelled p) h refl
 
-fits-by : (m : OrderMessage) (b : Bool) → proper m ≡ b → MessageFits (if b then kind_written m else blank)
+fits-by : (m : OrderMessage) (b : Bool) → proper m ≡ b → MessageFits One (if b then kind_written m else blank)
 fits-by m true h = kind-fits m h
 fits-by m false h = blank-fits
 
 -- ---- what is written was tested by the limits of messages
 
-fits-proposal : (slot view : ℕ) (o : Option Entry) → MessageFits (proposal_written slot view o) → (is_place slot view ≡ true) ⊎ (proposal_written slot view o ≡ blank)
+fits-proposal : (slot view : ℕ) (o : Option Action) → MessageFits One (proposal_written slot view o) → (is_place slot view ≡ true) ⊎ (proposal_written slot view o ≡ blank)
 fits-proposal slot view None fits = inr refl
 fits-proposal slot view (Some entry) fits = inl (fits-place slot view fits.0 fits.1.0)
 
-fits-done : (slot : ℕ) (o : Option Entry) → MessageFits (done_written slot o) → (is_place slot 0 ≡ true) ⊎ (done_written slot o ≡ blank)
+fits-done : (slot : ℕ) (o : Option Action) → MessageFits One (done_written slot o) → (is_place slot 0 ≡ true) ⊎ (done_written slot o ≡ blank)
 fits-done slot None fits = inr refl
 fits-done slot (Some entry) fits = inl (fits-place slot 0 fits.0 (omega arith))
 
-fits-kind : (m : OrderMessage) → MessageFits (kind_written m) → (proper m ≡ true) ⊎ (kind_written m ≡ blank)
+fits-kind : (m : OrderMessage) → MessageFits One (kind_written m) → (proper m ≡ true) ⊎ (kind_written m ≡ blank)
 fits-kind (order.Propose slot view p) fits = fits-proposal slot view (entry_spelled p) fits
 fits-kind (order.Echo slot view digest) fits = inl (fits-step slot view digest fits)
 fits-kind (order.Confirm slot view digest) fits = inl (fits-step slot view digest fits)
@@ -209,7 +212,7 @@ fits-kind (order.Change slot view c) fits = inl (fits-change slot view c fits)
 fits-kind (order.Done slot p) fits = fits-done slot (entry_spelled p) fits
 
 -- what fits is written as it is
-pub fitting-is : (m : OrderMessage) → MessageFits (kind_written m) → kind_written m ≡ slot_written m
+pub fitting-is : (m : OrderMessage) → MessageFits One (kind_written m) → kind_written m ≡ slot_written m
 fitting-is m fits = by_test (proper m) refl
   where
     by_test : (b : Bool) → proper m ≡ b → kind_written m ≡ (if b then kind_written m else blank)
@@ -217,7 +220,7 @@ fitting-is m fits = by_test (proper m) refl
     by_test false h = elim (fits-kind m fits) [ inl is ↦ absurd (let q : true ≡ false = sym is ∙ h in cc) | inr is ↦ is ]
 
 -- what doesn't is not written
-pub unfitting-is : (m : OrderMessage) → (MessageFits (kind_written m) → ⊥) → blank ≡ slot_written m
+pub unfitting-is : (m : OrderMessage) → (MessageFits One (kind_written m) → ⊥) → blank ≡ slot_written m
 unfitting-is m fails = by_test (proper m) refl
   where
     by_test : (b : Bool) → proper m ≡ b → blank ≡ (if b then kind_written m else blank)
@@ -254,6 +257,31 @@ kind-back (order.Done slot p) entries =
 
 -- ---- what is read
 
+alone-is : (actions : List Action) (action : Action) → alone actions ≡ Some action → actions ≡ action ∷ []
+alone-is [] action is = absurd cc
+alone-is (one ∷ []) action is = ap (λ (a : Action). a ∷ []) (some_is one action is)
+alone-is (one ∷ two ∷ more) action is = absurd cc
+
+-- a proposal that is read has an action
+record IsRead (actions : List Action) (made : Action → OrderMessage) (m : OrderMessage) : Type 0 where
+  pub action : Action
+  pub alone : actions ≡ action ∷ []
+  pub is : made action ≡ m
+
+proposal-is : (slot view : ℕ) (m : OrderMessage) (actions : List Action) → proposal_read slot view (alone actions) ≡ Some m → IsRead actions (λ a. order.Propose slot view (proposed_of a)) m
+proposal-is slot view m actions is = by (alone actions) refl is
+  where
+    by : (o : Option Action) → alone actions ≡ o → proposal_read slot view o ≡ Some m → IsRead actions (λ a. order.Propose slot view (proposed_of a)) m
+    by None found is = absurd cc
+    by (Some a) found is = record { action = a; alone = alone-is actions a found; is = some_is _ m is }
+
+done-is : (slot : ℕ) (m : OrderMessage) (actions : List Action) → done_read slot (alone actions) ≡ Some m → IsRead actions (λ a. order.Done slot (proposed_of a)) m
+done-is slot m actions is = by (alone actions) refl is
+  where
+    by : (o : Option Action) → alone actions ≡ o → done_read slot o ≡ Some m → IsRead actions (λ a. order.Done slot (proposed_of a)) m
+    by None found is = absurd cc
+    by (Some a) found is = record { action = a; alone = alone-is actions a found; is = some_is _ m is }
+
 theirs : (said : Message) (m : OrderMessage) → slot_read said ≡ Some m → is_ordering said ≡ true
 theirs (message.Propose slot view entry) m is = refl
 theirs (message.Echo slot view digest) m is = refl
@@ -266,23 +294,27 @@ module _ (m : OrderMessage) where
   abbrev IsProper : OrderMessage → Type 0
   IsProper k = proper k ≡ true
 
-  read-proper : (said : Message) → MessageFits said → slot_read said ≡ Some m → proper m ≡ true
-  read-proper (message.Propose slot view entry) fits is = subst IsProper (some_is _ m is) (fits-place slot view fits.0 fits.1.0)
+  read-proper : (said : Message) → MessageFits One said → slot_read said ≡ Some m → proper m ≡ true
+  read-proper (message.Propose slot view entry) fits is = subst IsProper (proposal-is slot view m entry.actions is).is (fits-place slot view fits.0 fits.1.0)
   read-proper (message.Echo slot view digest) fits is = subst IsProper (some_is _ m is) (fits-step slot view digest fits)
   read-proper (message.Confirm slot view digest) fits is = subst IsProper (some_is _ m is) (fits-step slot view digest fits)
   read-proper (message.Change slot view change) fits is = subst IsProper (some_is _ m is) (fits-change slot view (record { prepared = change.prepared; echoed = change.echoed }) fits)
-  read-proper (message.Done slot entry) fits is = subst IsProper (some_is _ m is) (fits-place slot 0 fits.0 (omega arith))
+  read-proper (message.Done slot entry) fits is = subst IsProper (done-is slot m entry.actions is).is (fits-place slot 0 fits.0 (omega arith))
   read-proper said fits is = (let q : None ≡ Some m = is in cc)
 
   abbrev Holds : Message → OrderMessage → Type 0
   Holds said k = carried k ≡ map proposed_of (entries_in said)
 
   read-entries : (said : Message) → slot_read said ≡ Some m → carried m ≡ map proposed_of (entries_in said)
-  read-entries (message.Propose slot view entry) is = subst (Holds (message.Propose slot view entry)) (some_is _ m is) refl
+  read-entries (message.Propose slot view entry) is =
+      let read = proposal-is slot view m entry.actions is in
+      ap carried (sym read.is) ∙ ap (map proposed_of) (sym read.alone)
   read-entries (message.Echo slot view digest) is = subst (Holds (message.Echo slot view digest)) (some_is _ m is) refl
   read-entries (message.Confirm slot view digest) is = subst (Holds (message.Confirm slot view digest)) (some_is _ m is) refl
   read-entries (message.Change slot view change) is = subst (Holds (message.Change slot view change)) (some_is _ m is) refl
-  read-entries (message.Done slot entry) is = subst (Holds (message.Done slot entry)) (some_is _ m is) refl
+  read-entries (message.Done slot entry) is =
+      let read = done-is slot m entry.actions is in
+      ap carried (sym read.is) ∙ ap (map proposed_of) (sym read.alone)
   read-entries said is = (let q : None ≡ Some m = is in cc)
 
 pub slot_carries : Carries slot_machine slot_carrier

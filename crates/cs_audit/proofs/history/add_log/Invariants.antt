@@ -15,4 +15,4 @@ use Rattle.cs_audit.proofs.history.add_log.Given as goal
 abbrev pub invariant-loop-slot : goal.invariant-loop-slot
 invariant-loop-slot l = (objects : List Object) (approves : Tx → Bool) (logs : List Log) (sessions : List Session) → KeepsVotes (deployed_setup l.config objects approves) logs l.votes
     → slice_get logs l.shard ≡ Some l.log → FindsTransactions logs l.fn.found.entries sessions []
-    → FindsTransactions logs l.found.entries (sessions ++ filter (all_logs_commit (deployed_setup l.config objects approves) logs) (flat_map (λ leaf. prepared_session leaf.entry) (take l.slot l.leaves))) []
+    → FindsTransactions logs l.found.entries (sessions ++ filter (all_logs_commit (deployed_setup l.config objects approves) logs) (flat_map (λ leaf. prepared_session leaf.action) (take l.slot l.leaves))) []

@@ -1,6 +1,10 @@
 use Rattle.cs_tx_value.specs.laws.Object.{object_form}
-use Rattle.cs_tx_types.specs.laws.Session.{entry_form}
+use Rattle.cs_tx_types.specs.laws.Session.{action_form}
+use Rattle.cs_tx_types.specs.laws.Entry.{entry_form}
 use Rattle.cs_cli.proofs.readings.what_is_read_was_written.Goals as goal
+
+pub returns-clause-actions : goal.returns-clause-actions
+returns-clause-actions c = action_form
 
 pub returns-clause-entries : goal.returns-clause-entries
 returns-clause-entries c = entry_form

@@ -15,7 +15,7 @@ returns-in-Told c = λ past input said.
     let sound : IsSoundClient e told now = record { told_fits = c.requires.told; told_marked = c.requires.marked; phase_fits = c.requires.phase } in
     on-ok c.hear.result (c.hear.new.self ≡ heard_of e.config from c.in-Told.key c.in-Told.state told) (Hears e past input told now c.hear.new.self now)
     (λ is. told-taken e past input told c.hear.new.self now from c.in-Told.key c.in-Told.state sound
-    (said ∙ ap (λ m. Some (from, m)) c.in-Told.is) c.requires.node (subst MessageFits c.in-Told.is c.requires.message).1 is)
+    (said ∙ ap (λ m. Some (from, m)) c.in-Told.is) c.requires.node (subst (MessageFits c.args.errand.now.keys.version) c.in-Told.is c.requires.message).1 is)
     c.hear.ensures
 
 pub returns-in-Decided : goal.returns-in-Decided

@@ -11,7 +11,7 @@ say_body-requires c =
     let x = c.args.session.now in
     let is : c.deref.result.now ≡ session_encoding x =
     c.deref.ensures.value ∙ c.in_ok-body.ensures in
-    subst (λ body. length body ≤ MOST_BODY) (sym is) (body_short (message.Submit x) c.requires)
+    subst (λ body. length body ≤ MOST_BODY) (sym is) (body_short c.args.keys.now.version (message.Submit x) c.requires)
 
 pub returns : goal.returns
 returns c =

@@ -1,6 +1,7 @@
 use Rattle.std.proofs.Common.{ℕ, List, Err, sym, ap, subst, ◌∙◌}
 use Rattle.cs_config.specs.Reading.{FileGives}
 use Rattle.cs_config.specs.File.{keys_of}
+use Rattle.cs_config.proofs.First.{file_first}
 use Rattle.cs_config.specs.declared.error.FileField.TheVariants as field
 use Rattle.cs_deploy.specs.declared.cause.Cause.TheVariants as cause
 use Rattle.cs_deploy.specs.Taking.{FilesCome}
@@ -39,3 +40,8 @@ returns-clause-taken g c =
     keys-ok c.args.role config c.args.name.now (g.E.Store.files c.args.store.now) c.in_ok-bytes.bytes keys c.in_ok-bytes.ensures.taken
     (ap (keys_of config) (sym c.as_slice.ensures) ∙ c.in-Ok.ensures)
     (ap (is_right c.args.role config) (sym c.me.ensures) ∙ sym c.is_right.ensures ∙ c.if-not-is_right.false)
+
+pub returns-clause-first : goal.returns-clause-first
+returns-clause-first g c =
+    let config = c.args.site.now.config in
+    file_first config c.in_ok-bytes.bytes c.in-Ok.keys (ap (keys_of config) (sym c.as_slice.ensures) ∙ c.in-Ok.ensures)

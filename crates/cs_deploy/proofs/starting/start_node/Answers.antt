@@ -13,6 +13,9 @@ use Rattle.cs_node.specs.Cores.{CoreStandsFor}
 use Rattle.cs_sbac.specs.Genesis.{keyed_from}
 use Rattle.cs_deploy.proofs.starting.start_node.Goals as goal
 
+pub start-requires-clause-first : goal.start-requires-clause-first
+start-requires-clause-first c = c.requires.first
+
 pub start-requires-clause-node : goal.start-requires-clause-node
 start-requires-clause-node c = c.requires.right
 

@@ -1,6 +1,6 @@
 use Rattle.std.proofs.Common.{ℕ, ◌≡◌, ◌<◌, List, length, ◌∙◌, ap, sym, subst, arith}
 use Rattle.std.specs.List.{insert}
-use Rattle.cs_node.specs.declared.nodes.Core.{Core}
+use Rattle.cs_node.specs.declared.node_core.Core.{Core}
 use Rattle.cs_node.specs.Speaking.{input_of}
 use Rattle.cs_node_rules.specs.World.{view_of}
 use Rattle.cs_node_rules.specs.Deployment.{site_of}

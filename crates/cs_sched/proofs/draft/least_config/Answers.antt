@@ -1,6 +1,6 @@
 use Rattle.std.proofs.Common.{sym}
-use Rattle.cs_base.proofs.Configs.{config_of-config}
+use Rattle.cs_base.proofs.Configs.{config_in-config}
 use Rattle.cs_sched.proofs.draft.least_config.Goals as goal
 
 pub returns : goal.returns
-returns c = sym (config_of-config _)
+returns c = sym (config_in-config _)

@@ -37,6 +37,11 @@ loop-buf-preserved g c =
       sink = le_more (g.K.Sink.faults c.args.out.now) (g.K.Sink.faults c.loop-buf.out) (g.K.Sink.faults c.take_turn.new.out) so_far.sink turn.sink.later;
     }
 
+pub overflow_add-turns : goal.overflow_add-turns
+overflow_add-turns g c =
+    let below = c.is_over.ensures.last c.loop-buf-test.true in
+    omega arith
+
 pub overflow_add-ticks : goal.overflow_add-ticks
 overflow_add-ticks g c =
     let below = c.is_over.ensures.last c.loop-buf-test.true in

@@ -4,8 +4,8 @@ use Rattle.std.proofs.lemmas.Bool.{both_ways}
 use Rattle.cs_base.specs.Lists.{IsIn}
 use Rattle.cs_base.specs.declared.node_id.NodeId.{NodeId}
 use Rattle.cs_tx_types.specs.declared.session.Session.{Session}
-use Rattle.cs_tx_types.specs.declared.entry.Entry.{Entry}
-use Rattle.cs_tx_types.specs.declared.entry.Entry.TheVariants.{Prepare}
+use Rattle.cs_tx_types.specs.declared.action.Action.{Action}
+use Rattle.cs_tx_types.specs.declared.action.Action.TheVariants.{Prepare}
 use Rattle.cs_wire_message.specs.declared.message.Message.TheVariants as message
 use Rattle.cs_ledger.specs.Ledger.{Item, Serial, IsSpentOnce, genesis_ledger, ledger_of}
 use Rattle.cs_ledger.specs.Session as Seen
@@ -48,7 +48,7 @@ no-split {A} [] x earlier e = absurd cc
 no-split {A} (other ∷ later) x earlier e = absurd cc
 
 -- a log, as the ledger sees it
-seen-map : (setup : Setup) (log : List Entry) → seen setup log ≡ map (entry_of setup) log
+seen-map : (setup : Setup) (log : List Action) → seen setup log ≡ map (entry_of setup) log
 seen-map setup [] = refl
 seen-map setup (entry ∷ log) = ap (λ (l : List Shard.Entry). entry_of setup entry ∷ l) (seen-map setup log)
 

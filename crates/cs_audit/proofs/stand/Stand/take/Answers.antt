@@ -30,9 +30,9 @@ returns g c log kept_is genesis =
     let count = ap (λ (k : KeptLog). k.slots) kept_is in
     let slot : nat_eq leaf.slot (length log.leaves) ≡ true = eq-eqb leaf.slot (length log.leaves) (omega (arith, count)) in
     let fits : c.in_ok-is_fit.field-0 ≡ true = search rules in
-    let form : is_fit setup s.shard (session_in leaf.entry) ≡ true = sym (ap (is_fit setup s.shard) c.session.ensures.is) ∙ sym (c.in_ok-is_fit.ensures.fit genesis approves) ∙ fits in
+    let form : is_fit setup s.shard (session_in leaf.action) ≡ true = sym (ap (is_fit setup s.shard) c.session.ensures.is) ∙ sym (c.in_ok-is_fit.ensures.fit genesis approves) ∙ fits in
     let judged : c.in_ok-is_judged.field-0 ≡ true = search rules in
-    let judge : is_judged setup leaf.entry ≡ true = sym (c.in_ok-is_judged.ensures c.args.self.now.config genesis) ∙ judged in
+    let judge : is_judged setup leaf.action ≡ true = sym (c.in_ok-is_judged.ensures c.args.self.now.config genesis) ∙ judged in
     let same : leaf.result ≡ effect = search rules in (
       at_none setup log heads leaf s slot form judge (result_is setup log heads leaf s mid effect ran same)
           (head_is setup log heads leaf s mid effect ran new c.in_ok-made.ensures.table c.in_ok-made.ensures.config c.in_ok-made.ensures.shard chain c.in_ok-made.ensures.leaves c.in_ok-made.made

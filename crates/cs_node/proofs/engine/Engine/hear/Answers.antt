@@ -15,7 +15,7 @@ returns-in-Ask g c =
 
 pub returns-in-AskProof : goal.returns-in-AskProof
 returns-in-AskProof g c =
-    signs-said g.O.Order.stands g.J.Judge.is_approved g.O.Order.rules g.O.Carried.carrier c.args.self.now c.args.self.now.sbac c.args.draft.now c.ask_proof.new.draft c.ask_proof.result c.args.sender c.args.message (message.AskProof c.in-AskProof.slot) c.in-AskProof.is (λ site v. refl)
+    signs-said g.O.Order.stands g.J.Judge.is_approved g.O.Order.rules g.O.Carried.carrier c.args.self.now c.args.self.now.sbac c.args.draft.now c.ask_proof.new.draft c.ask_proof.result c.args.sender c.args.message (message.AskProof c.in-AskProof.slot c.in-AskProof._place) c.in-AskProof.is (λ site v. refl)
     (c.ask_proof.ensures (g.J.Judge.is_approved c.args.self.now.judge))
 
 pub returns-in-Voted : goal.returns-in-Voted

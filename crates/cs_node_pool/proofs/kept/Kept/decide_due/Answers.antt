@@ -1,5 +1,5 @@
 use Rattle.std.proofs.Common.{◌∙◌, ap, sym, subst, Some, None}
-use Rattle.cs_tx_types.specs.declared.entry.Entry.TheVariants.{Decide}
+use Rattle.cs_tx_types.specs.declared.action.Action.TheVariants.{Decide}
 use Rattle.cs_tx_types.specs.Session.{SessionFits}
 use Rattle.cs_node_state.specs.Admission.{decide_due}
 use Rattle.cs_node_pool.specs.Seats.{is_due}

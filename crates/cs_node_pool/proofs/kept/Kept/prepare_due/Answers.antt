@@ -1,5 +1,5 @@
 use Rattle.std.proofs.Common.{◌∙◌, ap, sym, subst, Some}
-use Rattle.cs_tx_types.specs.declared.entry.Entry.TheVariants.{Prepare}
+use Rattle.cs_tx_types.specs.declared.action.Action.TheVariants.{Prepare}
 use Rattle.cs_tx_types.specs.Session.{SessionFits}
 use Rattle.cs_node_pool.specs.Seats.{waits}
 use Rattle.cs_node_pool.proofs.Right.{fits-first}

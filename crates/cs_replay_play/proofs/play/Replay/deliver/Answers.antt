@@ -1,6 +1,6 @@
 use Rattle.std.proofs.Common.{◌≡◌, ℕ, ◌<◌, false, List, length, sym, subst, ◌∙◌, rules}
 use Rattle.std.proofs.lemmas.Result.{err_from_is_err_and}
-use Rattle.cs_node.specs.declared.nodes.Core.{Core}
+use Rattle.cs_node.specs.declared.node_core.Core.{Core}
 use Rattle.cs_node_rules.specs.World.{view_of}
 use Rattle.cs_base.specs.declared.node_id.NodeId.{NodeId}
 use Rattle.cs_replay_rules.specs.Play.{Course, with_arrived}

@@ -1,5 +1,5 @@
 use Rattle.std.proofs.Common.{◌≡◌, ℕ, ◌<◌, List, length, sym, ap, subst, ◌∙◌}
-use Rattle.cs_node.specs.declared.nodes.Core.{Core}
+use Rattle.cs_node.specs.declared.node_core.Core.{Core}
 use Rattle.cs_node_rules.specs.World.{view_of, was_sent}
 use Rattle.cs_replay_play.specs.Standing.{site_in, EachStands}
 use Rattle.cs_replay_play.proofs.Taken.{no-node, a-node}

@@ -1,5 +1,5 @@
 use Rattle.std.proofs.Common.{List, length, sym, subst, ◌∙◌}
-use Rattle.cs_node.specs.declared.nodes.Core.{Core}
+use Rattle.cs_node.specs.declared.node_core.Core.{Core}
 use Rattle.cs_node_rules.specs.World.{view_of}
 use Rattle.cs_replay_play.specs.Standing.{site_in, EachStands, HasNode}
 use Rattle.cs_replay_play.proofs.Views.{view-me}

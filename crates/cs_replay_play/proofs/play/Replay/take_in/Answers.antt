@@ -3,7 +3,7 @@ use Rattle.std.proofs.lemmas.Result.{err_from_is_err_and}
 use Rattle.cs_replay_rules.specs.Play.{occurs, size_of, most_sent, most_events}
 use Rattle.cs_node_rules.specs.Lines.{Parcel}
 use Rattle.cs_node_rules.specs.World.{happens}
-use Rattle.cs_node.specs.declared.nodes.Core.{Core}
+use Rattle.cs_node.specs.declared.node_core.Core.{Core}
 use Rattle.cs_node.specs.Speaking.{input_of}
 use Rattle.cs_replay_play.specs.declared.play.Replay.{Replay}
 use Rattle.cs_replay_play.specs.Logged.{AllLogged}

@@ -11,7 +11,7 @@ use Rattle.cs_node.specs.Cores.{KeepsView}
 use Rattle.cs_node.specs.Speaking.{Speaks}
 use Rattle.cs_sbac.proofs.Fit.{all-fit}
 use Rattle.cs_node.proofs.Starting.{begun_with, started}
-use Rattle.cs_node.proofs.nodes.Core.start.Goals as goal
+use Rattle.cs_node.proofs.node_core.Core.start.Goals as goal
 
 pub genesis-requires : goal.genesis-requires
 genesis-requires g c = all-fit c.args.genesis.now c.requires.objects

@@ -2,7 +2,7 @@ use Rattle.cs_node_rules.specs.Deployment.{site_of}
 use Rattle.cs_node.specs.Speaking.{input_of}
 use Rattle.cs_node.proofs.Dropped.{event-dropped}
 use Rattle.cs_node.proofs.Standing.{event-done, event-sealed, same-me}
-use Rattle.cs_node.proofs.nodes.Core.step.Goals as goal
+use Rattle.cs_node.proofs.node_core.Core.step.Goals as goal
 
 pub returns-clause-event : goal.returns-clause-event
 returns-clause-event g c = λ setup net v is.
