@@ -1,2 +1,4 @@
 pub mod Ruled
 pub mod Saying
+pub mod Taken
+pub mod Verified

@@ -7,11 +7,13 @@ use Rattle.cs_approve.specs.Books.{Contracts, contracts_of}
 use Rattle.cs_approve.specs.Approval.{is_trace_approved}
 use Rattle.cs_native.specs.Hashlock.{hashlock_id, is_hashlock}
 use Rattle.cs_native.specs.Sum.{sum_id, is_sum}
+use Rattle.cs_native.specs.Signed.{signed_id, is_signed}
 
 -- a rule is asked under its id, and for every other contract the book
 abbrev pub is_trace_approved_with_rules : Contracts → List Trace → Trace → Bool
 is_trace_approved_with_rules contracts traces t =
-    if bytes_eq t.contract sum_id then is_sum t
+    if bytes_eq t.contract signed_id then is_signed t
+    else if bytes_eq t.contract sum_id then is_sum t
     else if bytes_eq t.contract hashlock_id then is_hashlock t
     else is_trace_approved contracts traces t
 

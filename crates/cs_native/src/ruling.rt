@@ -3,6 +3,7 @@ ghost use Rattle.std.specs.Prelude.{◌≡◌};
 
 use crate::hashlock::Hashlock;
 use crate::kept::Kept;
+use crate::signed::Signed;
 use crate::sum::Sum;
 use cs_approve::Book;
 use cs_base::Memory;
@@ -46,6 +47,7 @@ impl Judge for RuledBook {
     fn approves(&self, alloc: Global, tx: &Tx) -> Result<bool, Memory> {
         let locks = Kept::new(&self.book, Hashlock);
         let sums = Kept::new(locks, Sum);
-        sums.approves(alloc, tx)
+        let payments = Kept::new(sums, Signed);
+        payments.approves(alloc, tx)
     }
 }

@@ -1,15 +1,13 @@
 //! The rule `sum`.
 ghost use Rattle.std.specs.Prelude.{◌≡◌, ◌≤◌, ◌<◌, ◌^◌, length, map, IfSome};
 ghost use Rattle.std.specs.List.{list_all};
-ghost use Rattle.cs_tx_value.specs.declared.value.Value.{out-Value};
 ghost use Rattle.cs_tx_types.specs.declared.limits.TheConstants.{MOST_TRACE_OBJECTS};
-ghost use Rattle.cs_tx.specs.Token.{amount_of_layer};
 ghost use Rattle.cs_native.specs.Sum.{purse_of, amount_in, sum_of_kind, is_conserved, is_sum};
 
 use crate::rule::Rule;
-use crate::values::int_of;
+use crate::values::{amount, int_of};
 use crate::view::NativeView;
-use cs_tx_value::{Digest, Object, Value};
+use cs_tx_value::{Digest, Object};
 use sha2::{Digest as Hasher, Sha256};
 
 /// Purses of several kinds are moved, and of no kind is there more or less than before.
@@ -37,16 +35,6 @@ impl Rule for Sum {
 struct Purse {
     amount: u64,
     kind: i64,
-}
-
-fn amount(value: &Value) -> Option<u64>
-    ensures amount { result ≡ amount_of_layer (out-Value value.now) }
-    ensures small { IfSome result (λ amount. amount < 2 ^ 63) }
-{
-    match value {
-        Value::Int(number) if *number >= 0 => Some(*number as u64),
-        _ => None,
-    }
 }
 
 fn purse_of(object: &Object) -> Option<Purse>

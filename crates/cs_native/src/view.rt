@@ -36,6 +36,16 @@ impl<'a> NativeView<'a> {
         NativeView { trace }
     }
 
+    /// That the trace fits.
+    ///
+    /// It does nothing: its contract is what a caller has by calling it.
+    pub fn fits(&self)
+        ensures { TraceFits self.now }
+    {
+        // A field that is used brings in what is known of the struct.
+        let _ = &self.trace;
+    }
+
     /// The id that the trace calls.
     pub fn contract(&self) -> &'a Digest
         ensures { result.now ≡ self.now.contract }

@@ -1,4 +1,5 @@
-//! Trials: the rules written in Rust against a plain program, over random views from fixed seeds.
+//! Trials: the rules written in Rust against a plain program, over random views from fixed seeds, and
+//! payments that a wallet has signed.
 //!
 //! It has tests alone.
 #![tactic(auto)]
@@ -7,5 +8,7 @@
 mod plain;
 #[cfg(test)]
 mod rule_tests;
+#[cfg(test)]
+mod signed_tests;
 #[cfg(test)]
 mod traces;

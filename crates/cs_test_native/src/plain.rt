@@ -1,4 +1,4 @@
-//! Views in plain values, and what the two rules say of them, written from the rules' documents.
+//! Views in plain values, and what `hashlock` and `sum` say of them, written from the rules' documents.
 
 /// Texts: two of which the hash is published, these hashes, and a hash without its last byte.
 #[derive(Clone, Copy, Debug, PartialEq, Eq)]

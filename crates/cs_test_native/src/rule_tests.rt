@@ -16,14 +16,16 @@ const VIEWS: u32 = 400;
 
 const APPROVED: u32 = 40;
 
-fn rules(alloc: Global) -> Result<RuledBook, Memory> {
+/// The rules alone.
+pub fn rules(alloc: Global) -> Result<RuledBook, Memory> {
     match Book::new(alloc, &[]) {
         Ok(book) => Ok(RuledBook::new(book)),
         Err(_) => Err(Memory),
     }
 }
 
-fn says(
+/// Whether a transaction of these traces, which fits, is approved.
+pub fn says(
     rt: &impl Abort,
     book: &RuledBook,
     alloc: Global,

@@ -7,3 +7,4 @@ pub mod Fits
 pub mod Read
 pub mod Saved
 pub mod Decided
+pub mod Rising

@@ -1,6 +1,7 @@
 //! The used numbers of a file: each once, without a sign, and not too many.
-ghost use Rattle.std.specs.Prelude.{◌≡◌, ◌≤◌, true, IfOk};
+ghost use Rattle.std.specs.Prelude.{◌≡◌, ◌≤◌, negsuc, true, IfOk};
 ghost use Rattle.cs_wallet.specs.File.{FileGives, stands, are_apart, number_of, signed_in, numbered, used_of};
+ghost use Rattle.cs_wallet.specs.Rising.{rise_from};
 ghost use Rattle.cs_wallet.specs.Fitting.{SignedFits, AllSignedFit, UsedFits};
 ghost use Rattle.cs_onetime.specs.declared.wallet.TheConstants.{LAST_NUMBER};
 
@@ -17,8 +18,22 @@ fn stands(number: i64, entries: &[Entry]) -> bool
     entries.iter().any(|entry| entry.number == number)
 }
 
-/// Whether no number stands twice.
-pub(crate) fn are_apart(entries: &[Entry]) -> bool
+// Whether each number is above the one before it.
+fn are_rising(entries: &[Entry]) -> bool
+    ensures { result ≡ rise_from (negsuc 0) entries.now }
+{
+    let mut last = -1;
+    for entry in entries {
+        if entry.number <= last {
+            return false;
+        }
+        last = entry.number;
+    }
+    true
+}
+
+// Whether no number stands among those behind it.
+fn is_none_behind(entries: &[Entry]) -> bool
     ensures { result ≡ are_apart entries.now }
 {
     for (place, entry) in entries.iter().enumerate() {
@@ -28,6 +43,15 @@ pub(crate) fn are_apart(entries: &[Entry]) -> bool
         }
     }
     true
+}
+
+/// Whether no number stands twice. One pass tells it of numbers that rise, as they do where each is
+/// used in its turn.
+#[tactic(auto, using(crate::proofs::Rising::rising_apart))]
+pub(crate) fn are_apart(entries: &[Entry]) -> bool
+    ensures { result ≡ are_apart entries.now }
+{
+    are_rising(entries) || is_none_behind(entries)
 }
 
 fn number_of(number: i64) -> Result<u64, FileError>
