@@ -8,3 +8,4 @@ mod views;
 
 pub use book::{Book, BookError};
 pub use judging::books_approve_what_they_say;
+pub use views::lend_view;

@@ -1,5 +1,5 @@
 -- What is told of a fault behind its line.
-use Rattle.std.specs.Prelude.{ℕ, ◌-◌, ◌==◌, List, [], ◌∷◌, ◌++◌, length, take, slice_index, slice_get, codes, Option, None, Some, if◌then◌else◌}
+use Rattle.std.specs.Prelude.{ℕ, ◌+◌, ◌-◌, ◌==◌, List, [], ◌∷◌, ◌++◌, length, take, drop, slice_index, slice_get, codes, Option, None, Some, if◌then◌else◌}
 use Rattle.std.specs.Fmt.{decimal}
 use Rattle.cs_lang_token.specs.declared.token.Token.{Token}
 use Rattle.cs_lang_token.specs.declared.kind.Kind.{Kind}
@@ -14,7 +14,9 @@ use Rattle.cs_explain.specs.declared.reasons.Reason.TheVariants as reason
 use Rattle.cs_explain.specs.Found.{tokens_in, index_of, token_told, found_text, byte_text}
 use Rattle.cs_explain.specs.Wanted.{wanted_at, kinds_text}
 use Rattle.cs_explain.specs.Reasons.{reason_of}
-use Rattle.cs_explain.specs.Standing.{standing_at, literals_text}
+use Rattle.cs_explain.specs.declared.comparing.Compared.{Compared}
+use Rattle.cs_explain.specs.Standing.{tried_tokens, standing_at, literals_text}
+use Rattle.cs_explain.specs.Comparing.{comparison, compared_in, compared_text}
 
 -- ---- what can stand there
 
@@ -47,23 +49,32 @@ fixed_text reason.Turns = codes " has more than 1024 turns"
 fixed_text reason.Unset = codes " can't be set"
 fixed_text reason.Uncreated = codes " isn't created"
 fixed_text reason.OtherType = codes " isn't the type of this slot"
+fixed_text reason.Starred = codes " has a star, and stands for objects by their places, as in [0]"
+fixed_text reason.Unstarred = codes " has no star, and so no places"
+fixed_text reason.Object = codes " is an object, of which only the fields are values"
 fixed_text other = []
 
--- behind the token of this number
-abbrev pub reason_text : Reason → List ℕ → List Token → ℕ → List ℕ
-reason_text (reason.Declared other) text tokens index =
-    declared_text (position_at text (token_place (slice_get tokens other)))
-reason_text reason.Kind text tokens index =
-    literals_text (standing_at text (token_place (slice_get tokens index)) tokens index)
-reason_text other text tokens index = fixed_text other
+-- the token of this number, and the kinds that can stand there
+abbrev pub kinds_told : List ℕ → List Token → ℕ → List ℕ
+kinds_told text tokens index =
+    codes "found " ++ (token_told tokens index
+    ++ literals_text (standing_at text (token_place (slice_get tokens index)) tokens index))
 
-abbrev pub reason_begun : Reason → List ℕ
-reason_begun reason.Kind = codes "found "
-reason_begun other = []
+-- a list that is compared, or else the kinds that can stand there
+abbrev pub kind_told : Option Compared → List ℕ → List Token → ℕ → List ℕ
+kind_told None text tokens index = kinds_told text tokens index
+kind_told (Some compared) text tokens index = compared_text compared
+
+-- the list that begins with the token of this number, if it is one that is compared
+abbrev pub compared_at : List ℕ → List Token → ℕ → Option Compared
+compared_at text tokens index =
+    compared_in text (token_place (slice_get tokens index)) (comparison (tried_tokens (drop (index + 1) tokens)))
 
 abbrev pub reason_told : Reason → List ℕ → List Token → ℕ → List ℕ
-reason_told why text tokens index =
-    reason_begun why ++ (token_told tokens index ++ reason_text why text tokens index)
+reason_told (reason.Declared other) text tokens index =
+    token_told tokens index ++ declared_text (position_at text (token_place (slice_get tokens other)))
+reason_told reason.Kind text tokens index = kind_told (compared_at text tokens index) text tokens index
+reason_told other text tokens index = token_told tokens index ++ fixed_text other
 
 abbrev pub mistyped_text : List ℕ → List Token → Option ℕ → List ℕ
 mistyped_text text tokens None = codes "the end"

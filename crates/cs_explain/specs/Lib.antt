@@ -5,5 +5,6 @@ pub mod Found
 pub mod NameTokens
 pub mod Reasons
 pub mod Standing
+pub mod Comparing
 pub mod Explaining
 pub mod Notes

@@ -1,5 +1,5 @@
 //! Where tokens declare names.
-ghost use Rattle.std.specs.Prelude.{◌≡◌, ◌≤◌, length, false};
+ghost use Rattle.std.specs.Prelude.{◌≡◌, ◌<◌, ◌≤◌, length, false, IfSome};
 ghost use Rattle.cs_explain.specs.NameTokens.{is_at, is_behind, is_ahead, name_at, is_declared_at, same_truth, is_of_one_sort, declares_same, begins_others, last_declared, check_behind, check_behind_all};
 
 use cs_lang_token::{Kind, Token};
@@ -99,7 +99,8 @@ fn begins_others(tokens: &[Token], index: usize, other: usize) -> bool
 #[tactic(auto, using(crate::proofs::Declarings::one_less))]
 pub fn last_declared(tokens: &[Token], index: usize) -> Option<usize>
     requires { index ≤ length tokens.now }
-    ensures { result ≡ last_declared tokens.now index index }
+    ensures last { result ≡ last_declared tokens.now index index }
+    ensures before { IfSome result (λ other. other < index) }
 {
     let mut left = index;
     while left > 0 {

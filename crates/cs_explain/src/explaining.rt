@@ -1,12 +1,14 @@
 //! What is told of a fault behind its line.
 ghost use Rattle.std.specs.Prelude.{◌≡◌, ◌++◌, [], ◌<◌, length, slice_get, slice_index, IfOk, OnOk, string_bytes};
 ghost use Rattle.cs_explain.specs.Found.{index_of};
+ghost use Rattle.cs_types.specs.Positions.{position_at as position_of};
 ghost use Rattle.cs_explain.specs.Reasons.{reason_of};
-ghost use Rattle.cs_explain.specs.Explaining.{wanted_text, wanted_if_any, token_place, declared_text, fixed_text, reason_text, reason_begun, reason_told, mistyped_text, byte_told, lex_text, syntax_text, told_in, explanation, without_last, explained_text};
+ghost use Rattle.cs_explain.specs.Explaining.{wanted_text, wanted_if_any, token_place, declared_text, fixed_text, kinds_told, kind_told, compared_at, reason_told, mistyped_text, byte_told, lex_text, syntax_text, told_in, explanation, without_last, explained_text};
 
+use crate::comparing::{Compared, compared_in, compared_text};
 use crate::found::{index_of, put, put_byte, put_found, put_token, tokens_in};
 use crate::reasons::{Reason, reason_of};
-use crate::standing::{literals_text, standing_at};
+use crate::standing::{literals_text, standing_at, tried_tokens};
 use crate::wanted::{kinds_text, wanted_at};
 use cs_base::Memory;
 use cs_lang_token::{Kind, Token};
@@ -64,6 +66,9 @@ fn fixed_text(reason: Reason) -> &'static str
         Reason::Unset => " can't be set",
         Reason::Uncreated => " isn't created",
         Reason::OtherType => " isn't the type of this slot",
+        Reason::Starred => " has a star, and stands for objects by their places, as in [0]",
+        Reason::Unstarred => " has no star, and so no places",
+        Reason::Object => " is an object, of which only the fields are values",
         Reason::Declared(_) => "",
         Reason::Kind => "",
     }
@@ -77,16 +82,16 @@ fn put_declared(
     other: usize,
     out: &mut Vec<u8>,
 ) -> Result<(), Memory>
-    ensures { OnOk result (out.new.items
-        ≡ out.old.items ++ reason_text (Reason.Declared other) text.now tokens.now 0) }
+    ensures { OnOk result (out.new.items ≡ out.old.items
+        ++ declared_text (position_of text.now (token_place (slice_get tokens.now other)))) }
 {
     let position = position_at(text, token_place(tokens, other));
     let told = declared_text(alloc, position)?;
     put(told.as_bytes(), out)
 }
 
-// Tells the kinds that may begin with the token of this number.
-fn put_standing(
+// Tells the token of this number, and the kinds that may begin with it.
+fn put_kinds(
     alloc: Global,
     text: &[u8],
     tokens: &[Token],
@@ -94,16 +99,57 @@ fn put_standing(
     out: &mut Vec<u8>,
 ) -> Result<(), Memory>
     requires { index < length tokens.now }
-    ensures { OnOk result (out.new.items
-        ≡ out.old.items ++ reason_text Reason.Kind text.now tokens.now index) }
+    ensures { OnOk result (out.new.items ≡ out.old.items ++ kinds_told text.now tokens.now index) }
 {
     let place = token_place(tokens, index);
     let standing = standing_at(alloc, text, place, tokens, index)?;
     let told = literals_text(alloc, standing.as_slice())?;
+    out.extend_from_slice(b"found ")?;
+    put_token(alloc, tokens, index, out)?;
     put(told.as_bytes(), out)
 }
 
-// Tells a reason, behind the token of this number.
+// The list that begins with the token of this number, if it is one that is compared.
+fn compared_at(
+    alloc: Global,
+    text: &[u8],
+    tokens: &[Token],
+    index: usize,
+) -> Result<Option<Compared>, Memory>
+    requires { index < length tokens.now }
+    ensures { IfOk result (λ compared. compared ≡ compared_at text.now tokens.now index) }
+{
+    let (_, behind) = tokens.split_at(index + 1);
+    compared_in(
+        alloc,
+        text,
+        token_place(tokens, index),
+        tried_tokens(behind),
+    )
+}
+
+// Tells of a list that is compared, or else the kinds that may begin with the token of this number.
+fn put_kind(
+    alloc: Global,
+    text: &[u8],
+    tokens: &[Token],
+    index: usize,
+    out: &mut Vec<u8>,
+) -> Result<(), Memory>
+    requires { index < length tokens.now }
+    ensures { OnOk result (out.new.items ≡ out.old.items
+        ++ kind_told (compared_at text.now tokens.now index) text.now tokens.now index) }
+{
+    match compared_at(alloc, text, tokens, index)? {
+        Some(compared) => {
+            let told = compared_text(alloc, compared)?;
+            put(told.as_bytes(), out)
+        }
+        None => put_kinds(alloc, text, tokens, index, out),
+    }
+}
+
+// Tells a reason, of the token of this number.
 fn put_reason(
     alloc: Global,
     reason: Reason,
@@ -114,40 +160,19 @@ fn put_reason(
 ) -> Result<(), Memory>
     requires { index < length tokens.now }
     ensures { OnOk result (out.new.items
-        ≡ out.old.items ++ reason_text reason text.now tokens.now index) }
+        ≡ out.old.items ++ reason_told reason text.now tokens.now index) }
 {
     match reason {
-        Reason::Declared(other) => put_declared(alloc, text, tokens, other, out),
-        Reason::Kind => put_standing(alloc, text, tokens, index, out),
-        other => put(fixed_text(other).as_bytes(), out),
+        Reason::Kind => put_kind(alloc, text, tokens, index, out),
+        Reason::Declared(other) => {
+            put_token(alloc, tokens, index, out)?;
+            put_declared(alloc, text, tokens, other, out)
+        }
+        other => {
+            put_token(alloc, tokens, index, out)?;
+            put(fixed_text(other).as_bytes(), out)
+        }
     }
-}
-
-fn reason_begun(reason: Reason) -> &'static str
-    ensures { result.now ≡ reason_begun reason }
-{
-    match reason {
-        Reason::Kind => "found ",
-        _ => "",
-    }
-}
-
-// Tells why the token of this number breaks a rule on kinds.
-fn put_reason_at(
-    alloc: Global,
-    text: &[u8],
-    tokens: &[Token],
-    index: usize,
-    out: &mut Vec<u8>,
-) -> Result<(), Memory>
-    requires { index < length tokens.now }
-    ensures { OnOk result (out.new.items
-        ≡ out.old.items ++ reason_told (reason_of tokens.now index) text.now tokens.now index) }
-{
-    let reason = reason_of(tokens, index);
-    out.extend_from_slice(reason_begun(reason).as_bytes())?;
-    put_token(alloc, tokens, index, out)?;
-    put_reason(alloc, reason, text, tokens, index, out)
 }
 
 fn put_mistyped(
@@ -161,7 +186,7 @@ fn put_mistyped(
         ≡ out.old.items ++ mistyped_text text.now tokens.now (index_of place tokens.now)) }
 {
     match index_of(place, tokens) {
-        Some(index) => put_reason_at(alloc, text, tokens, index, out),
+        Some(index) => put_reason(alloc, reason_of(tokens, index), text, tokens, index, out),
         None => put(b"the end", out),
     }
 }

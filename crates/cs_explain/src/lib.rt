@@ -1,6 +1,7 @@
 //! Explanations of refused contract texts, and notes on accepted ones.
 #![tactic(auto)]
 
+mod comparing;
 mod declared;
 mod explaining;
 mod found;
@@ -12,6 +13,7 @@ mod standing;
 mod wanted;
 mod words;
 
+pub use comparing::{Compared, LISTS};
 pub use explaining::explained_line;
 pub use fronts::{goes_on, wanted_tokens_can_stand};
 pub use notes::put_notes;

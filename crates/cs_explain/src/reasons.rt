@@ -1,6 +1,6 @@
 //! Why a token breaks a rule on kinds.
-ghost use Rattle.std.specs.Prelude.{◌≡◌, ◌≤◌, length};
-ghost use Rattle.cs_explain.specs.Reasons.{declared_reason, word_reason, reason_of};
+ghost use Rattle.std.specs.Prelude.{◌≡◌, ◌<◌, ◌≤◌, length, IfSome};
+ghost use Rattle.cs_explain.specs.Reasons.{declared_reason, used_reason, is_slot, name_reason, word_reason, reason_of};
 
 use crate::declared::{is_ahead, is_at, is_behind, is_declared_at, is_in_check, last_declared};
 use cs_lang_token::{Kind, Token};
@@ -30,6 +30,12 @@ pub enum Reason {
     Uncreated,
     /// The slot is of another type.
     OtherType,
+    /// A slot has a star, so its objects stand by their places.
+    Starred,
+    /// A slot has no star, so no place.
+    Unstarred,
+    /// The name is that of an object.
+    Object,
     /// Another kind of values has to stand here.
     Kind,
 }
@@ -50,7 +56,56 @@ fn declared_reason(tokens: &[Token], index: usize, other: Option<usize>) -> Reas
     }
 }
 
+// What doesn't go with a slot's star, or with its having none.
+fn used_reason(tokens: &[Token], index: usize, slot: usize) -> Reason
+    requires index { index ≤ length tokens.now }
+    requires slot { slot < index }
+    ensures { result ≡ used_reason tokens.now index slot }
+{
+    let has_place = is_ahead(&[Kind::OpenList], tokens, index, 1);
+    if is_ahead(&[Kind::Star], tokens, slot, 3) {
+        if has_place {
+            Reason::Kind
+        } else {
+            Reason::Starred
+        }
+    } else if has_place {
+        Reason::Unstarred
+    } else if is_ahead(&[Kind::Dot], tokens, index, 1) {
+        Reason::Kind
+    } else {
+        Reason::Object
+    }
+}
+
+// Whether the token of this number declares a slot.
+fn is_slot(tokens: &[Token], other: usize) -> bool
+    requires { other ≤ length tokens.now }
+    ensures { result ≡ is_slot tokens.now other }
+{
+    is_ahead(&[Kind::Colon], tokens, other, 1) && is_ahead(&[Kind::Name], tokens, other, 2)
+}
+
+// Why a name can't stand for a value, by its last declaration.
+fn name_reason(tokens: &[Token], index: usize, other: Option<usize>) -> Reason
+    requires index { index ≤ length tokens.now }
+    requires other { IfSome other (λ slot. slot < index) }
+    ensures { result ≡ name_reason tokens.now index other }
+{
+    match other {
+        Some(slot) => {
+            if is_at(&[Kind::Name], tokens, index) && is_slot(tokens, slot) {
+                used_reason(tokens, index, slot)
+            } else {
+                Reason::Kind
+            }
+        }
+        None => Reason::Kind,
+    }
+}
+
 fn word_reason(tokens: &[Token], index: usize, inside: bool) -> Reason
+    requires { index ≤ length tokens.now }
     ensures { result ≡ word_reason tokens.now index inside }
 {
     let checks = [Kind::Answer, Kind::Called, Kind::DepInt];
@@ -60,7 +115,7 @@ fn word_reason(tokens: &[Token], index: usize, inside: bool) -> Reason
         Reason::InChecks
     } else if is_at(&[Kind::Make], tokens, index) {
         Reason::Fields
-    } else if is_at(&[Kind::Call], tokens, index) {
+    } else if is_at(&[Kind::Call], tokens, index) || is_behind(&[Kind::Call], tokens, index) {
         Reason::Values
     } else if is_at(&[Kind::For], tokens, index) {
         Reason::Turns
@@ -73,7 +128,7 @@ fn word_reason(tokens: &[Token], index: usize, inside: bool) -> Reason
     {
         Reason::OtherType
     } else {
-        Reason::Kind
+        name_reason(tokens, index, last_declared(tokens, index))
     }
 }
 

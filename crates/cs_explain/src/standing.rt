@@ -31,7 +31,8 @@ pub const LITERALS: [Literal; 6] = [
 // The most tokens for which a literal is tried.
 const MOST_TRIED: usize = 64;
 
-fn literal_text(literal: Literal) -> &'static str
+/// How the literal is written.
+pub fn literal_text(literal: Literal) -> &'static str
     ensures { result.now ≡ literal_text literal }
 {
     match literal {
@@ -44,7 +45,8 @@ fn literal_text(literal: Literal) -> &'static str
     }
 }
 
-fn literal_label(literal: Literal) -> &'static str
+/// The kind of the literal.
+pub fn literal_label(literal: Literal) -> &'static str
     ensures { result.now ≡ literal_label literal }
 {
     match literal {
@@ -101,8 +103,8 @@ fn with_literal(
     Ok(made)
 }
 
-// Whether the literal can stand in place of what stands between two places.
-fn can_stand(
+/// Whether the literal can stand in place of what stands between two places.
+pub fn can_stand(
     alloc: Global,
     text: &[u8],
     place: usize,
@@ -155,7 +157,8 @@ fn standing_before(
     Ok(Vec::new(alloc))
 }
 
-fn tried_tokens(tokens: &[Token]) -> &[Token]
+/// The tokens of these for which a literal is tried.
+pub fn tried_tokens(tokens: &[Token]) -> &[Token]
     ensures { result.now ≡ tried_tokens tokens.now }
 {
     tokens.split_at(tokens.len().min(MOST_TRIED)).0

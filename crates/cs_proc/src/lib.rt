@@ -17,3 +17,4 @@ pub use answering::run_method;
 pub use call::Call;
 pub use error::ProcError;
 pub use procedures::run_procedure;
+pub use running::run_in;

@@ -107,8 +107,13 @@ fn run_method_at(
     run_counted::<Brand>(alloc, contract, number, method, call, Blank::new(1))
 }
 
-/// Runs the method of a contract.
-fn run_in(alloc: Global, contract: &ContractTree, call: &Call) -> Result<Sequence<Trace>, ProcError>
+/// The traces of the method of this contract that is called and of those that it calls, whatever
+/// the checks say of them.
+pub fn run_in(
+    alloc: Global,
+    contract: &ContractTree,
+    call: &Call,
+) -> Result<Sequence<Trace>, ProcError>
     ensures { RunAnswers (numbered_ran contract.now call.now
         (number_of call.now.method contract.now.methods)) result }
 {

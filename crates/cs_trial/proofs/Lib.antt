@@ -1,4 +1,3 @@
 pub mod Closed
 pub mod Runs
 pub mod Turns
-mod Takes

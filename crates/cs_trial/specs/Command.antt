@@ -8,7 +8,8 @@ use Rattle.cs_io.specs.Store.{Files}
 use Rattle.cs_types.specs.Accepted.{Accepted}
 use Rattle.cs_types.specs.Accepting.{accepted_of}
 use Rattle.cs_types.specs.declared.fault.Fault.{Fault}
-use Rattle.cs_types.specs.Faults.{IsFault, fault_status, fault_text}
+use Rattle.cs_types.specs.Faults.{IsFault, fault_status}
+use Rattle.cs_explain.specs.Explaining.{explained_text}
 use Rattle.cs_deploy.specs.Taking.{Taken, TakesFiles, FilesCome, bytes_taken}
 use Rattle.cs_deploy.specs.Untaken.{IsSilent, IsUntaken, untaken_answer}
 use Rattle.cs_trial.specs.Trials.{CasesAnswer}
@@ -16,9 +17,9 @@ use Rattle.cs_trial.specs.Trials.{CasesAnswer}
 -- ---- what is answered to a contract's text and a text of cases
 
 abbrev pub faulted_answer : List ℕ → Fault → Answer
-faulted_answer text fault = record { status = fault_status fault; printed = fault_text text fault }
+faulted_answer text fault = record { status = fault_status fault; printed = explained_text text fault }
 
--- the first fault of the contract's text is told
+-- the first fault of the contract's text is told, and what explains it
 abbrev pub FaultAnswer : List ℕ → Answer → Type 0
 FaultAnswer text answer = (fault : Fault) × IsFault text fault × (answer ≡ faulted_answer text fault)
 

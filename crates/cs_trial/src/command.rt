@@ -5,45 +5,16 @@ ghost use Rattle.cs_io.specs.Told.{Stays};
 ghost use Rattle.cs_io.specs.Outside.{Faultless, Faulty};
 ghost use Rattle.cs_types.specs.Accepting.{accepted_of};
 ghost use Rattle.cs_types.specs.Faults.{IsFault};
-ghost use Rattle.cs_deploy.specs.declared.cause.Cause.TheVariants.{Fault as StoreFault};
-ghost use Rattle.cs_deploy.specs.Taking.{IsStoreFault, TakesFiles, FilesCome, bytes_taken};
-ghost use Rattle.cs_deploy.specs.Refusing.{Refuses};
 ghost use Rattle.cs_trial.specs.Trials.{CasesAnswer};
 ghost use Rattle.cs_trial.specs.Command.{FaultAnswer, Tells, TriesSource, TriesText, TryRuns, TryWhole};
 
 use crate::trial::try_text;
-use cs_base::{MOST_SCHEDULE, Memory, ReadError, Sequence, Sink, Source, print, read_text};
-use cs_deploy::{Cause, MOST_FILE, Untaken, refuse};
-use cs_io::{Loaded, Store, Text, closing};
+use cs_base::{MOST_SCHEDULE, Memory, ReadError, Sink, Source, print, read_text};
+use cs_deploy::{load, refuse};
+use cs_explain::explained_line;
+use cs_io::{Store, closing};
 use cs_types::{Checked, Fault, Unjudged, judged};
 use std::alloc::Global;
-
-// That the file of this name isn't taken.
-fn refused(alloc: Global, name: &str, cause: Cause) -> Untaken
-    ensures told { Refuses name.now cause result }
-    ensures fault { IsStoreFault result → cause ≡ StoreFault }
-{
-    match String::from_str(alloc, name) {
-        Ok(text) => Untaken::Refused(Text::from_string(text), cause),
-        Err(_) => Untaken::Memory,
-    }
-}
-
-// The text of the contract's file.
-fn load<E: Store>(alloc: Global, store: &mut E, name: &str) -> Result<Sequence<u8>, Untaken>
-    ensures taken { TakesFiles (FilesCome (bytes_taken name.now)) (E.files store.old) result }
-    ensures kept { Stays (E.files store.old) (E.files store.new) }
-    ensures cause { HasCause (E.faults store.old) (E.faults store.new) (IsErrAnd result IsStoreFault) }
-{
-    let mut bytes = Vec::new(alloc);
-    match store.load(name, MOST_FILE, &mut bytes) {
-        Loaded::Done => Ok(Sequence::from_vec(bytes)),
-        Loaded::Absent => Err(refused(alloc, name, Cause::Absent)),
-        Loaded::TooLong => Err(refused(alloc, name, Cause::TooLong)),
-        Loaded::Failed => Err(refused(alloc, name, Cause::Fault)),
-        Loaded::Memory => Err(Untaken::Memory),
-    }
-}
 
 /// Tries the contract of the file of this name on the cases of the source, and answers the status
 /// that a program ends with: 0 where none failed, else 9; 3 for a contract with a fault or a line
@@ -91,16 +62,16 @@ fn try_contract<S: Source, K: Sink>(alloc: Global, text: &[u8], input: &mut S, o
     }
 }
 
-// Tells of the fault of a contract's text.
+// Tells of the fault of a contract's text, and what explains it.
 fn tell_fault<K: Sink>(alloc: Global, text: &[u8], fault: Fault, out: &mut K) -> u8
     requires { IsFault text.now fault }
     ensures tells { Tells (FaultAnswer text.now) (K.written out.old) (K.written out.new) result }
     ensures only { (result ≢ 2) × (result ≢ 5) }
     ensures write_fault { HasCause (K.faults out.old) (K.faults out.new) (result ≡ 6) }
 {
-    match fault.line(alloc, text) {
-        Ok(line) => closing(print(out, line.as_bytes()), fault.status()),
-        Err(_) => 8,
+    match explained_line(alloc, text, fault) {
+        Ok(line) => closing(print(out, &line), fault.status()),
+        Err(Memory) => 8,
     }
 }
 

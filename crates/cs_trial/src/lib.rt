@@ -8,7 +8,6 @@ mod outcome;
 mod outcomes;
 mod traces;
 mod trial;
-mod views;
 
 pub use command::run_try;
 pub use outcome::Outcome;

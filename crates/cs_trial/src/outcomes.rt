@@ -6,7 +6,7 @@ ghost use Rattle.cs_trial.specs.Outcomes.{checks_say, TracesTell, case_ran, RunT
 
 use crate::outcome::Outcome;
 use crate::traces::run_case;
-use crate::views::lend_view;
+use cs_approve::lend_view;
 use cs_base::{Memory, Sequence};
 use cs_cases::{Asked, Case};
 use cs_eval_place::{Verdict, check_verdict};

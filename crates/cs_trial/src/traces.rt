@@ -1,111 +1,30 @@
 //! What the procedure of a case makes, whatever the checks say of it.
-ghost use Rattle.std.specs.Prelude.{◌≡◌, ◌<◌, ℕ, Some};
-ghost use Rattle.cs_proc_parts.specs.Courses.{Went};
-ghost use Rattle.cs_proc.specs.Calling.{refusal_of, call_ran_of, method_ran, numbered_ran};
-ghost use Rattle.cs_proc.specs.Answering.{RunAnswers, TellsRun};
-ghost use Rattle.cs_types_kinds.specs.Lookups.{method_number as number_of};
+ghost use Rattle.std.specs.Prelude.{◌≡◌, IfOk};
+ghost use Rattle.cs_proc.specs.Calling.{numbered_ran};
+ghost use Rattle.cs_proc.specs.Answering.{RunAnswers};
+ghost use Rattle.cs_types_kinds.specs.Lookups.{method_number};
 ghost use Rattle.cs_trial.specs.Outcomes.{call_of};
 
-use cs_base::Sequence;
+use cs_base::{Memory, Sequence};
 use cs_cases::Case;
-use cs_eval::Scene;
-use cs_eval_values::{LentView, Objects, Steps};
-use cs_lang::{ContractTree, Method};
-use cs_proc::{ProcError, run_procedure};
-use cs_proc_parts::{Ending, Halt, Keyed, Progress};
+use cs_lang::ContractTree;
+use cs_proc::{Call, ProcError, run_in};
 use cs_tx_types::Trace;
 use cs_tx_value::{Digest, copy_each};
-use cs_types_kinds::method_number;
 use std::alloc::Global;
-use std::marker::Brand;
-use std::sync::ledger::{Blank, Ledger};
 
-// The refusal of a call whose run ends so.
-fn refusal_of(ending: Ending) -> ProcError
-    ensures { result ≡ refusal_of ending }
+// A case as a call of the contract with this id.
+fn call_of(alloc: Global, id: &Digest, case: &Case) -> Result<Call, Memory>
+    ensures { IfOk result (λ call. call ≡ call_of id.now case.now) }
 {
-    match ending {
-        Ending::Trap(_, place) => ProcError::Trap(place),
-        Ending::Filled(place) => ProcError::Trap(place),
-        Ending::Unfilled(place) => ProcError::Trap(place),
-        Ending::Missing => ProcError::BadArgs,
-    }
-}
-
-// The traces of a run that is through, where no object is left over.
-fn traces_of(progress: Progress<'_>) -> Result<Sequence<Trace>, ProcError>
-    ensures { (n : ℕ) → RunAnswers (call_ran_of (Went progress.entry n)) result }
-{
-    if progress.is_used_up() {
-        return Ok(progress.traces);
-    }
-    Err(ProcError::BadArgs)
-}
-
-// What is told of a run: its traces, or why there are none.
-fn told(run: Result<Progress<'_>, Halt>) -> Result<Sequence<Trace>, ProcError>
-    ensures { TellsRun run.entry result }
-{
-    match run {
-        Ok(progress) => traces_of(progress),
-        Err(Halt::End(ending)) => Err(refusal_of(ending)),
-        Err(Halt::Memory) => Err(ProcError::Memory),
-    }
-}
-
-// Runs a method with so many others above it, where this counts what it spends.
-fn run_counted<L: Ledger>(
-    alloc: Global,
-    contract: &ContractTree,
-    number: usize,
-    method: &Method,
-    id: &Digest,
-    case: &Case,
-    blank: Blank,
-) -> Result<Sequence<Trace>, ProcError>
-    requires name { blank.name ≡ L.name }
-    requires parts { blank.parts ≡ L.parts }
-    requires some { 0 < L.parts }
-    ensures { RunAnswers
-        (method_ran contract.now (call_of id.now case.now) number (Some method.now)) result }
-{
-    let view = LentView::new(
-        id,
-        Objects::alone(&[]),
-        Objects::alone(&[]),
-        &[],
-        Objects::alone(&[]),
-        &[],
-        Vec::new(alloc),
-    );
-    let scene = Scene {
-        alloc,
-        contract,
-        view: &view,
-    };
-    let arguments = copy_each(alloc, &case.arguments)?;
-    let progress = Progress {
-        inputs: Keyed::new(case.inputs.as_slice()),
-        reads: Keyed::new(case.references.as_slice()),
-        traces: Sequence::new(alloc),
-    };
-    let mut steps: Steps<L> = Steps::new(blank);
-    told(run_procedure(&scene, number, method, arguments, progress, &mut steps))
-}
-
-// The same; nobody asks what the run spends.
-fn run_at(
-    alloc: Global,
-    contract: &ContractTree,
-    number: usize,
-    method: &Method,
-    id: &Digest,
-    case: &Case,
-) -> Result<Sequence<Trace>, ProcError>
-    ensures { RunAnswers
-        (method_ran contract.now (call_of id.now case.now) number (Some method.now)) result }
-{
-    run_counted::<Brand>(alloc, contract, number, method, id, case, Blank::new(1))
+    let method = Vec::from_slice(alloc, case.method.as_slice())?;
+    Ok(Call {
+        contract: *id,
+        method: Sequence::from_vec(method),
+        inputs: copy_each(alloc, &case.inputs)?,
+        reads: copy_each(alloc, &case.references)?,
+        args: copy_each(alloc, &case.arguments)?,
+    })
 }
 
 /// The traces of the method of a case and of those that it calls, in the contract with this id.
@@ -116,14 +35,8 @@ pub fn run_case(
     case: &Case,
 ) -> Result<Sequence<Trace>, ProcError>
     ensures { RunAnswers (numbered_ran contract.now (call_of id.now case.now)
-        (number_of case.now.method contract.now.methods)) result }
+        (method_number case.now.method contract.now.methods)) result }
 {
-    let methods = contract.methods.as_slice();
-    let Some(number) = method_number(methods, case.method.as_slice()) else {
-        return Err(ProcError::NoMethod);
-    };
-    match methods.get(number) {
-        Some(method) => run_at(alloc, contract, number, method, id, case),
-        None => Err(ProcError::NoMethod),
-    }
+    let call = call_of(alloc, id, case)?;
+    run_in(alloc, contract, &call)
 }

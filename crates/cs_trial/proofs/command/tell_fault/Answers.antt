@@ -11,8 +11,8 @@ returns-in-Ok-clause-tells g c =
     inl (
       told,
       (c.args.fault, c.requires, refl),
-      printed-answers told c.print.result c.closing.result (c.closing.ensures ∙ ap (closing_status c.print.result) c.status.ensures) c.as_bytes.result.now _ _
-          (c.as_bytes.ensures.value ∙ c.in-Ok.ensures) c.print.ensures.done c.print.ensures.part,
+      printed-answers told c.print.result c.closing.result (c.closing.ensures ∙ ap (closing_status c.print.result) c.status.ensures) c.deref.result.now _ _
+          (c.deref.ensures.value ∙ c.in-Ok.ensures) c.print.ensures.done c.print.ensures.part,
     )
 
 pub returns-in-Ok-clause-only : goal.returns-in-Ok-clause-only
