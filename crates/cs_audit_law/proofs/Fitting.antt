@@ -60,7 +60,7 @@ executed_at (Did s place other effect ∷ past) slot entry is = by (slot == leng
 
 -- ---- they fit
 
-module _ (setup : Setup) (shard : ℕ) where
+module _ (setup : Setup) (first : setup.version ≡ One) (shard : ℕ) where
   pub leaves_fit : (firsts : List Execution) → AllComputed setup firsts
       → ((slot : ℕ) (entry : Action) → at_slot (Chain.shard_entries shard firsts) slot ≡ Some entry → ActionFits entry)
       → length (Chain.shard_entries shard firsts) ≤ 2 ^ 64 → All (LeafFits One) (dumped_leaves shard firsts)
@@ -76,7 +76,7 @@ module _ (setup : Setup) (shard : ℕ) where
       by true is before fits small =
           let log = Chain.shard_entries shard earlier in
           let here = eqb-true e.shard shard is in
-          let next : e.slot ≡ count_executed shard earlier = subst (λ n. e.slot ≡ count_executed n earlier) here (slot-counted setup e earlier computed) in
+          let next : e.slot ≡ count_executed shard earlier = subst (λ n. e.slot ≡ count_executed n earlier) here (slot-counted setup first e earlier computed) in
           let count : count_executed shard earlier ≡ length log = counted-entries shard earlier in
           let below : e.slot < 2 ^ 64 = omega arith in
           let bound : length log ≤ 2 ^ 64 = omega arith in

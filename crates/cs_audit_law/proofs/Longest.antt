@@ -26,6 +26,7 @@ use Rattle.cs_world_law.specs.Steps.{AllComputed, executions_of, effect_after}
 use Rattle.cs_world_law.specs.Shown.{leaf_by, leaves_of}
 use Rattle.cs_world_law.specs.Chain as Chain
 use Rattle.cs_world_law.proofs.Older.{older, IsOlder, older-drop, older-all}
+use Rattle.cs_base.specs.declared.version.Version.TheVariants.{One}
 use Rattle.cs_world_law.proofs.Counted.{slot-counted}
 use Rattle.cs_world_law.proofs.SameHeads.{Core, core_of, core_after, core_by, LogBy}
 use Rattle.cs_audit_rules.specs.Stands.{Stand, start_stand, after_leaf, after_leaves}
@@ -59,7 +60,7 @@ count_by setup shard (entry ∷ past) =
 
 -- ---- and so is what the leaves of first executions come to
 
-module _ (setup : Setup) (shard : ℕ) where
+module _ (setup : Setup) (first : setup.version ≡ One) (shard : ℕ) where
   abbrev core_in : Stand → Core
   core_in s = (s.table, (s.keys, s.log))
 
@@ -82,7 +83,7 @@ module _ (setup : Setup) (shard : ℕ) where
       by true is same =
           let stand = dumped_stand setup shard earlier in
           let here = eqb-true e.shard shard is in
-          let next_slot : e.slot ≡ count_executed shard earlier = subst (λ n. e.slot ≡ count_executed n earlier) here (slot-counted setup e earlier computed) in
+          let next_slot : e.slot ≡ count_executed shard earlier = subst (λ n. e.slot ≡ count_executed n earlier) here (slot-counted setup first e earlier computed) in
           let slot_is : e.slot ≡ length stand.log.leaves = next_slot ∙ sym (count_there setup shard earlier) in
           let effect_is : e.effect ≡ effect_after setup earlier shard e.entry = subst (λ n. e.effect ≡ effect_after setup earlier n e.entry) here computed.0.effect in
           let comes : e.effect ≡ (exec setup.rules shard stand.table (entry_of setup e.entry)).effect =

@@ -56,6 +56,7 @@ effect_from_same a b is = subst (λ (e : Effect). same_effect a e ≡ true) is (
 
 pub earlier_steps : (setup : Setup) (e : Execution) (earlier : List Execution) → AreSteps setup (e ∷ earlier) → AreSteps setup earlier
 earlier_steps setup e earlier are = record {
+  first = are.first;
   allowed = are.allowed.1;
   computed = are.computed.1;
   apart = no_collision_within setup.rules.genesis (sessions (steps_of setup (e ∷ earlier))) (sessions (steps_of setup earlier)) (λ x within. inr within) are.apart;
@@ -118,7 +119,7 @@ module _ (setup : Setup) (shard : ℕ) where
       let came = are.computed.0 in
       let counted : length stand.log.leaves ≡ 0 + length leaves = count_stands setup shard start leaves in
       let leaf_slots : length leaves ≡ count_executed shard earlier = leaf-count (executions_of shard earlier) ∙ counted_executions shard earlier in
-      let next_slot : e.slot ≡ count_executed shard earlier = subst (λ n. e.slot ≡ count_executed n earlier) here (slot-counted setup e earlier are.computed) in
+      let next_slot : e.slot ≡ count_executed shard earlier = subst (λ n. e.slot ≡ count_executed n earlier) here (slot-counted setup are.first e earlier are.computed) in
       let effect_is : e.effect ≡ effect_after setup earlier shard e.entry = subst (λ n. e.effect ≡ effect_after setup earlier n e.entry) here came.effect in
       let rooted : HasRoots stand.log = roots_there start leaves refl in
       let one_more_leaf = length-append stand.log.leaves (leaf_encoding One (leaf_by e) ∷ []) in

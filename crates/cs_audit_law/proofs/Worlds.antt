@@ -36,7 +36,7 @@ no_first {M} site shard =
 pub no_leaf : {M : Type 0} (site : Site M) → LeavesFit site []
 no_leaf {M} site fit shard few = All-nil (LeafFits One)
 
-module _ {M : Type 0} (machine : Machine M) (p : IsPlace machine) (some : 0 < p.config.shards) (apart : NoCollision (At machine p) p.genesis p.world) where
+module _ {M : Type 0} (machine : Machine M) (p : IsPlace machine) (some : 0 < p.config.shards) (apart : NoCollision (At machine p) p.genesis p.world) (first : (At machine p).setup.version ≡ One) where
   abbrev site : Site M
   site = At machine p
 
@@ -76,7 +76,7 @@ module _ {M : Type 0} (machine : Machine M) (p : IsPlace machine) (some : 0 < p.
   pub dumps_firsts : DumpsFirsts site p.world
   dumps_firsts shard =
       longest_whole site p.world shard (all_of shard) (parts shard) (source shard)
-      ∙ sym (ap (λ (k : Core). k.1.1) (stand_core site.setup shard (firsts_of p.world) (came machine p some (lawful-here machine p some apart))))
+      ∙ sym (ap (λ (k : Core). k.1.1) (stand_core site.setup first shard (firsts_of p.world) (came machine p some (lawful-here machine p some apart))))
 
   -- each entry of a shard was executed by a node, so it has an encoding
   entry_fits : ExecutesFit site p.world → (shard slot : ℕ) (entry : Action) → at_slot (all_of shard) slot ≡ Some entry → ActionFits entry
@@ -90,4 +90,4 @@ module _ {M : Type 0} (machine : Machine M) (p : IsPlace machine) (some : 0 < p.
   dumped_fit fit shard few =
       let count : length (dumped_leaves shard (firsts_of p.world)) ≡ length (all_of shard) = leaves_count site.setup (firsts_of p.world) shard ∙ counted-entries shard (firsts_of p.world) in
       let small : length (all_of shard) ≤ 2 ^ 64 = omega arith in
-      leaves_fit site.setup shard (firsts_of p.world) (came machine p some (lawful-here machine p some apart)) (entry_fits fit shard) small
+      leaves_fit site.setup first shard (firsts_of p.world) (came machine p some (lawful-here machine p some apart)) (entry_fits fit shard) small

@@ -18,9 +18,10 @@ use Rattle.cs_audit_rules.specs.Verdicts.{first_fault}
 use Rattle.cs_replay_rules.specs.Dumps.{shard_log}
 use Rattle.cs_audit_law.specs.Dumped.{dumped_leaves, dumped_stand, dumped_logs}
 
--- Each step may be taken after those before it, and its result is what it comes to. Digests tell sessions and
--- transactions apart, and names outputs and genesis objects.
+-- In version 1 each step may be taken after those before it, and its result is what it comes to. Digests tell sessions
+-- and transactions apart, and names outputs and genesis objects.
 pub record AreSteps (setup : Setup) (firsts : List Execution) : Type 0 where
+  pub first : setup.version ≡ One
   pub allowed : AllAllowed setup.rules (steps_of setup firsts)
   pub computed : AllComputed setup firsts
   pub apart : AreNamedApart setup.rules.genesis (sessions (steps_of setup firsts))

@@ -4,6 +4,8 @@
 
 mod dumps;
 
+ghost use Rattle.std.specs.Prelude.{◌≡◌};
+ghost use Rattle.cs_base.specs.declared.version.Version.TheVariants.{One};
 ghost use Rattle.cs_world_law.specs.Worlds.{OfWorldsApart};
 ghost use Rattle.cs_audit_law.specs.Passing.{LogsBreakNoRule, DecisionsHaveVotes, HistoryIsWhole, PassesAudit, DumpsFirsts, LeavesFit};
 
@@ -21,14 +23,17 @@ pub fn steps_break_no_rule()
     ensures history { HistoryIsWhole }
 {}
 
-/// Of every world in which at most f nodes of each shard lie, and no strings collide that are
-/// hashed, the logs and the history break no rule of the audit.
+/// Of every world of version 1 in which at most f nodes of each shard lie, and no strings collide
+/// that are hashed, the logs and the history break no rule of the audit.
 pub fn worlds_pass_audit<O: Order>()
-    ensures passes { OfWorldsApart O.rules (λ site world. PassesAudit site world) }
+    ensures passes { OfWorldsApart O.rules (λ site world. site.setup.version ≡ One
+        → PassesAudit site world) }
     // The longest log of a shard's honest nodes is that of all that was executed there.
-    ensures longest { OfWorldsApart O.rules (λ site world. DumpsFirsts site world) }
+    ensures longest { OfWorldsApart O.rules (λ site world. site.setup.version ≡ One
+        → DumpsFirsts site world) }
     // Each leaf of these has an encoding.
-    ensures fit { OfWorldsApart O.rules (λ site world. LeavesFit site world) }
+    ensures fit { OfWorldsApart O.rules (λ site world. site.setup.version ≡ One
+        → LeavesFit site world) }
 {
     marks_are_made::<O>();
 }

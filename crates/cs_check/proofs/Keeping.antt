@@ -1,6 +1,6 @@
 -- What is kept of a log, where something is known of what is kept, and what is kept of it one slot later.
-use Rattle.std.proofs.Common.{◌≡◌, ℕ, zero, suc, ◌+◌, ◌-◌, ◌*◌, ◌/◌, ◌%◌, ◌<◌, ◌≤◌, true, false, get_or, List, [], ◌∷◌, ◌++◌, length, map, take, drop, Option, Some, None, refl, sym, ap, ◌∙◌, inl, inr, arith, length-take, length-drop, append-nil}
-use Rattle.std.specs.Prelude.{◌==◌, slice_get, option_map}
+use Rattle.std.proofs.Common.{◌≡◌, ℕ, zero, suc, ◌+◌, ◌-◌, ◌*◌, ◌/◌, ◌%◌, ◌<◌, ◌≤◌, Bool, true, false, cond, get_or, List, [], ◌∷◌, ◌++◌, length, map, take, drop, Option, Some, None, refl, sym, ap, ◌∙◌, inl, inr, arith, length-take, length-drop, append-nil}
+use Rattle.std.specs.Prelude.{◌==◌, slice_get, option_map, IfSome}
 use Rattle.std.proofs.lemmas.Bool.{cases_lt, eq-eqb, ne_eqb, lt-ltb, le-ltb}
 use Rattle.std.proofs.lemmas.List.{drop-append-le, drop-drop, drop_all, take_all, get_or_append_left, get_or_push, get_or-take, get_or-drop, length_push, map_push, length-map}
 use Rattle.std.proofs.lemmas.Option.{slice_get-get_or, slice_get-map, slice_get_past, get_or_from_slice_get, slice_get_within}
@@ -8,6 +8,7 @@ use Rattle.cs_base.specs.declared.version.Version.TheVariants.{One}
 use Rattle.cs_tx_types.specs.declared.checkpoint.Checkpoint.{Checkpoint}
 use Rattle.cs_tx_types.specs.declared.proof.Proof.{Proof}
 use Rattle.cs_tx_types.specs.Log.{leaf_encoding}
+use Rattle.cs_tx_types.specs.declared.limits.TheConstants.{COVERED}
 use Rattle.cs_merkle.specs.Tree.{merkle_tree_hash}
 use Rattle.cs_merkle.specs.Path.{audit_path}
 use Rattle.cs_check_rules.specs.Chain.{Log, with_slot, head_of, no_head, head_before, checkpoint_of, chain_head, made_last, cut_slot, covered_leaves, IsProofOf, Covered, covered_of, covered_below, all_covered, KeptLog, kept_of}
@@ -282,6 +283,14 @@ module _ (log : Log) (kept : KeptLog) (is : kept ≡ kept_of log) (holds : IsKep
           let here : made_last next_log ≡ Some c =
           (rw is_whole refl) ∙ ap (λ (k : ℕ). Some (checkpoint_of next_log k)) number ∙ ap Some (sym next_is) in
           sym here ∙ ap made_last same_log
+
+-- a checkpoint that a log made covers 16 leaves
+pub last-covers : (log : Log) → IfSome (made_last log) (λ checkpoint. checkpoint.leaves ≡ COVERED)
+last-covers log = by (length log.leaves % COVERED == 0)
+  where
+    by : (b : Bool) → IfSome (cond b (Some (checkpoint_of log (length log.table_roots - 1))) None) (λ checkpoint. checkpoint.leaves ≡ COVERED)
+    by true = refl
+    by false = tt
 
 -- ---- a slot that is kept
 

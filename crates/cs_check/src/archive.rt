@@ -2,6 +2,7 @@
 ghost use Rattle.std.specs.Prelude.{◌≡◌, [], ◌==◌, ◌<◌, ◌^◌, length, position, OnOk, IfOk, IfSome};
 ghost use Rattle.cs_base.specs.declared.version.Version.TheVariants.{One};
 ghost use Rattle.cs_tx_types.specs.Log.{LeafFits, leaf_encoding, ProofFits};
+ghost use Rattle.cs_tx_types.specs.declared.limits.TheConstants.{COVERED};
 ghost use Rattle.cs_table.specs.Seen.{seen};
 ghost use Rattle.cs_check.specs.Leaves.{HasLeaves, HasLeavesBut};
 ghost use Rattle.cs_check_rules.specs.Chain.{empty_log, with_slot, made_last, kept_of, AtItsLog};
@@ -88,6 +89,7 @@ impl Archive {
         ensures made { let root = root_under (keys_in table.now.rows) (seen table.now) in
             AtItsLog self.old.kept (λ log. IfOk result (λ made.
             made ≡ made_last (with_slot (leaf_encoding One leaf.now) root log))) }
+        ensures covers { IfOk result (λ made. IfSome made (λ checkpoint. checkpoint.leaves ≡ COVERED)) }
         ensures leaves { OnOk result (HasLeaves self.new.hashed (seen table.now)) }
     {
         self.whole.check()?;

@@ -6,7 +6,7 @@ use Rattle.cs_base.specs.Lists.{IsIn}
 use Rattle.cs_node_state.specs.Setup.{Setup}
 use Rattle.cs_node_state.specs.Pool.{Pool}
 use Rattle.cs_node_rules.specs.Net.{Net}
-use Rattle.cs_node_rules.specs.Site.{Carrier, View}
+use Rattle.cs_node_rules.specs.Site.{Carriers, View}
 use Rattle.cs_node_rules.specs.Deployment.{site_of}
 use Rattle.cs_node_rules.specs.Trail.{with_deed, proposing, candidate_marks, propose_marks, echo_marks}
 use Rattle.cs_node.specs.Proposals.{pool_admits, admits_pending, first_admitted}
@@ -46,7 +46,7 @@ module _ (setup : Setup) (shard : ℕ) (pool : Pool) where
   pending-there None h = let q : false ≡ true = h in cc
   pending-there (Some x) h = refl
 
-module _ {M : Type 0} (setup : Setup) (net : Net) (rules : Machine M) (carried : Carrier M) (v : View M) where
+module _ {M : Type 0} (setup : Setup) (net : Net) (rules : Machine M) (carried : Carriers M) (v : View M) where
   abbrev taken : List Proposed → Option Proposed
   taken xs = first_admitted setup v.me.shard v.bench.pool xs
 

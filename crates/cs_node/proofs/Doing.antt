@@ -14,7 +14,7 @@ use Rattle.cs_order.specs.Calls.{Advances, Echoes, Proposes, advanced, sent_at}
 use Rattle.cs_node_state.specs.Setup.{Setup}
 use Rattle.cs_node_rules.specs.Net.{Net}
 use Rattle.cs_node_rules.specs.Signs.{Sign, execution_signs}
-use Rattle.cs_node_rules.specs.Site.{Carrier, Mark, Site, View}
+use Rattle.cs_node_rules.specs.Site.{Carriers, Mark, Site, View}
 use Rattle.cs_node_rules.specs.Trail.{handed, with_deed, entered_view, proposing, echo_marks, turn_marks}
 use Rattle.cs_node_rules.specs.Deployment.{site_of}
 use Rattle.cs_node_pool.specs.Deployed.{deployed_setup}
@@ -22,7 +22,8 @@ use Rattle.cs_sbac.specs.Held.{Held, bench_of}
 use Rattle.cs_node.specs.declared.engine.Engine.{Engine}
 use Rattle.cs_node.specs.Drafts.{Draft}
 use Rattle.cs_node.specs.Notes.{TellsSigns}
-use Rattle.cs_node.specs.Proposals.{entry_in, admits_pending}
+use Rattle.cs_node.specs.Proposals.{admits_pending}
+use Rattle.cs_node_rules.specs.Deployment.{entry_in}
 use Rattle.cs_node.specs.Signing.{Leaves}
 use Rattle.cs_node.specs.Steps.{TurnDone, log_cut_at}
 use Rattle.cs_node.specs.Cores.{IsSeated, KeepsView, core_view}
@@ -35,7 +36,7 @@ use Rattle.cs_node.proofs.Standing.{keeps-on, keeps-still}
 pub from-nothing : {A : Type 0} (old new outs : List A) → old ≡ [] → new ≡ old ++ outs → new ≡ outs
 from-nothing {A} old new outs none is = is ∙ ap (λ xs. xs ++ outs) none
 
-module _ {O J M : Type 0} (stands : O → Member M → Type 0) (approves : J → Tx → Bool) (rules : Machine M) (carried : Carrier M) (net : Net) (core : Engine O J M) (genesis : List Object) (log : Log) (h : Member M) (made made' : Draft) (seated : IsSeated stands core log h) where
+module _ {O J M : Type 0} (stands : O → Member M → Type 0) (approves : J → Tx → Bool) (rules : Machine M) (carried : Carriers M) (net : Net) (core : Engine O J M) (genesis : List Object) (log : Log) (h : Member M) (made made' : Draft) (seated : IsSeated stands core log h) where
   abbrev setup : Setup
   setup = deployed_setup core.sbac.config genesis (approves core.judge)
 
@@ -96,7 +97,7 @@ module _ {O J M : Type 0} (stands : O → Member M → Type 0) (approves : J →
   -- the order chose, what it chose was executed, and it was cut
   pub chosen-here : (order cut : O) (empty outs : List (Outgoing M)) (held : Held) (made'' : Draft) (proposed : Proposed) (slot : ℕ) → empty ≡ [] → Says outs → slot ≡ length (chosen_in h.deeds) → Advances rules h (Chosen proposed) empty outs (stands order)
       → ((h' : Member M) → stands order h' → stands cut (log_cut_at (length (chosen_in h'.deeds)) h'))
-      → Leaves setup core.sbac (execution_signs setup core.sbac.me (bench_of log core.sbac) slot (entry_in proposed)) (bench_of log core.sbac) held made' made''
+      → Leaves setup core.sbac (execution_signs setup core.sbac.me (bench_of log core.sbac) slot (entry_in setup.version proposed)) (bench_of log core.sbac) held made' made''
       → TurnDone site (turn_marks site v) v true made made'' (After (record { order = cut; judge = core.judge; sbac = held }))
   chosen-here order cut empty outs held made'' proposed slot none says at called cuts leaves =
       let deed : Deed M = Advanced (Chosen proposed) (rules.advancing h) in

@@ -1,10 +1,14 @@
 -- An execution with the node's own vote is what its signs say.
-use Rattle.std.proofs.Common.{◌≡◌, ℕ, ◌-◌, ◌%◌, ◌==◌, Bool, true, false, cond, List, [], ◌∷◌, ◌++◌, length, Option, Some, None, bytes_eq, IfSome, IsSome, is_some, refl, ap, sym, subst, ◌∙◌, arith, append_assoc, append-nil}
+use Rattle.std.proofs.Common.{◌≡◌, ℕ, zero, suc, ◌+◌, ◌-◌, ◌==◌, ◌<◌, get_or, length, Bool, true, false, cond, List, [], ◌∷◌, ◌++◌, Option, Some, None, bytes_eq, IsSome, is_some, refl, ap, sym, subst, ◌∙◌, arith, append_assoc, append-nil}
 use Rattle.cs_tx.specs.Votes.{vote_of}
 use Rattle.cs_base.specs.declared.node_id.NodeId.{NodeId}
 use Rattle.cs_tx_types.specs.declared.session.Session.{Session}
 use Rattle.cs_tx_types.specs.declared.vote.Vote.{Vote}
+use Rattle.cs_base.specs.declared.config.Config.{Config}
+use Rattle.cs_tx_value.specs.declared.object.Object.{Object}
+use Rattle.cs_tx_types.specs.declared.transaction.Tx.{Tx}
 use Rattle.cs_tx_types.specs.declared.action.Action.{Action}
+use Rattle.cs_tx_types.specs.declared.entry.Entry.{Entry}
 use Rattle.cs_tx_types.specs.declared.action.Action.TheVariants.{Prepare, Decide}
 use Rattle.cs_ledger.specs.Ledger.{Bytes}
 use Rattle.cs_ledger.specs.Session.{anchor}
@@ -12,21 +16,24 @@ use Rattle.cs_ledger.specs.Table as Chosen
 use Rattle.cs_ledger.specs.Table.{Effect, Voted, Accepted, Aborted, Skipped, Void, Outcome, act}
 use Rattle.cs_node_state.specs.declared.pooled.Pooled.{Pooled}
 use Rattle.cs_wire_message.specs.declared.message.Message.TheVariants as message
-use Rattle.cs_node_state.specs.Setup.{actions_of, Setup, digest_of, concerned, is_fit, vote_from}
-use Rattle.cs_node_rules.proofs.Actions.{one-signs}
-use Rattle.cs_tx_types.specs.Session.{session_in}
+use Rattle.cs_node_state.specs.Setup.{Setup, digest_of, concerned, is_fit, vote_from}
+use Rattle.std.specs.List.{AllByRecursion}
+use Rattle.cs_tx_types.specs.Session.{ActionFits, session_in}
 use Rattle.cs_node_rules.specs.Members.{others}
 use Rattle.cs_node_state.specs.Pool.{Pool, found, is_pooled, pool_changed, with_ballot, as_locked, entering, pushed, entered, entered_locked}
 use Rattle.cs_tx_types.specs.declared.checkpoint.Checkpoint.{Checkpoint}
-use Rattle.cs_tx_types.specs.declared.limits.TheConstants.{COVERED}
-use Rattle.cs_check_rules.specs.Chain.{Log, checkpoint_of, head_of, made_last}
-use Rattle.cs_node_state.specs.Bench.{Bench, Ran, is_locked, pool_after, executed, effect_from, next_leaf, with_leaf, slot_executed, told_by, vote_told, own_pool, bench_executed}
+use Rattle.cs_check_rules.specs.Chain.{Log, kept_of, head_of, made_last}
+use Rattle.cs_node_pool.specs.Deployed.{deployed_setup}
+use Rattle.cs_sbac.specs.Held.{Held, bench_of}
+use Rattle.cs_node.specs.Signing.{Leaves}
+use Rattle.cs_node.specs.Executions.{RanOne, RanSome}
+use Rattle.cs_node_state.specs.Bench.{Bench, Ran, is_locked, pool_after, executed, effect_from, next_leaf, with_leaf, action_executed, told_by, vote_told, own_pool, bench_executed}
 use Rattle.cs_node_rules.specs.Signs.{Sign, Did, Headed, bench_after, sends, own_signs, vote_signs, entered_signs, ran_signs, headed_signs, actions_signs, execution_signs}
 use Rattle.cs_node.specs.declared.draft.Note.TheVariants.{Executed}
 use Rattle.cs_node.specs.Drafts.{Draft}
 use Rattle.cs_node.specs.Notes.{notes_of, said_of, spoken, TellsSigns}
 use Rattle.cs_node.specs.Steps.{Makes}
-use Rattle.cs_node.proofs.Sums.{notes-append, said-append, notes-sends, bench-append, bench-sends, tells-more}
+use Rattle.cs_node.proofs.Sums.{notes-append, said-append, notes-sends, bench-append, bench-sends, tells-nothing, tells-more}
 use Rattle.cs_node.proofs.Ticked.{bench-voted}
 
 same-bytes : (d : Bytes) → bytes_eq d d ≡ true
@@ -137,22 +144,22 @@ abbrev pub bench_closed : Setup → NodeId → Bench → Action → Bench
 bench_closed setup me b entry =
     with_leaf (next_leaf b entry (executed setup me.shard b entry).effect) (bench_executed setup me b entry)
 
-ran-makes : (setup : Setup) (me : NodeId) (b b' : Bench) (slot : ℕ) (entry : Action) (made mid made' : Draft) → b' ≡ bench_closed setup me b entry
+pub ran-makes : (setup : Setup) (me : NodeId) (b b' : Bench) (slot place : ℕ) (entry : Action) (made mid made' : Draft) → b' ≡ bench_closed setup me b entry
     → TellsSigns (vote_signs setup me (session_in entry) (vote_told setup me.shard (session_in entry) (executed setup me.shard b entry))) made mid
-    → made'.notes ≡ mid.notes ++ Executed slot 0 entry (effect_from (executed setup me.shard b entry).effect) ∷ [] → made'.said ≡ mid.said
-    → Makes setup me (ran_signs setup me b slot 0 entry (session_in entry) (executed setup me.shard b entry)) b b' made made'
-ran-makes setup me b b' slot entry made mid made' is tells noted silent =
+    → made'.notes ≡ mid.notes ++ Executed slot place entry (effect_from (executed setup me.shard b entry).effect) ∷ [] → made'.said ≡ mid.said
+    → Makes setup me (ran_signs setup me b slot place entry (session_in entry) (executed setup me.shard b entry)) b b' made made'
+ran-makes setup me b b' slot place entry made mid made' is tells noted silent =
     let x : Session = session_in entry in
     let ran : Ran = executed setup me.shard b entry in
     let told : Option (Vote × Bool) = vote_told setup me.shard x ran in
     let pooled : Bool = is_pooled (digest_of setup x) b.pool in
-    let did : List Sign = Did slot 0 entry ran.effect ∷ [] in
+    let did : List Sign = Did slot place entry ran.effect ∷ [] in
     let own : List Sign = own_signs me x told in
     let vote : List Sign = vote_signs setup me x told in
     let enters : List Sign = entered_signs x pooled told in
     let signs : List Sign = own ++ (vote ++ enters) in
-    let all : List Sign = ran_signs setup me b slot 0 entry x ran in
-    let left : Bench = slot_executed setup me.shard b entry in
+    let all : List Sign = ran_signs setup me b slot place entry x ran in
+    let left : Bench = action_executed setup me.shard b entry in
     let whole : all ≡ signs ++ did = ap (λ xs. own ++ xs) (sym (append_assoc vote enters did)) ∙ sym (append_assoc own (vote ++ enters) did) in
     let quiet : notes_of vote ≡ [] = voted-notes setup me x told in
     let told-is : notes_of all ≡ notes_of did = ap notes_of whole ∙ notes-append signs did ∙ ap (λ xs. notes_of did ++ xs) (after-notes setup me x pooled told ∙ quiet) in
@@ -175,22 +182,12 @@ bench-headed setup me (Some c) b =
     bench-append setup me.shard (sends names (message.Head c)) (Headed c.number (head_of c) ∷ []) b
     ∙ bench-sends setup me.shard names (message.Head c) b
 
--- a checkpoint that a log made covers 16 leaves
-pub last-covers : (log : Log) → IfSome (made_last log) (λ c. c.leaves ≡ COVERED)
-last-covers log = by (length log.leaves % COVERED == 0)
-  where
-    by : (b : Bool) → IfSome (cond b (Some (checkpoint_of log (length log.table_roots - 1))) None) (λ c. c.leaves ≡ COVERED)
-    by true = refl
-    by false = tt
-
-pub execution-makes : (setup : Setup) (me : NodeId) (b b' : Bench) (slot : ℕ) (entry : Action) (made mid made' made'' : Draft) → b' ≡ bench_closed setup me b entry
-    → TellsSigns (vote_signs setup me (session_in entry) (vote_told setup me.shard (session_in entry) (executed setup me.shard b entry))) made mid
-    → made'.notes ≡ mid.notes ++ Executed slot 0 entry (effect_from (executed setup me.shard b entry).effect) ∷ [] → made'.said ≡ mid.said
+-- the checkpoint that a slot made is told
+closed-makes : (setup : Setup) (me : NodeId) (b b' : Bench) (slot : ℕ) (entry : Entry) (made made' made'' : Draft)
+    → Makes setup me (actions_signs setup me b slot 0 entry.actions) b b' made made'
     → TellsSigns (headed_signs setup me (made_last b'.log)) made' made'' → Makes setup me (execution_signs setup me b slot entry) b b' made made''
-execution-makes setup me b b' slot entry made mid made' made'' is tells noted silent headed =
-    let ran : List Sign = actions_signs setup me b slot 0 (actions_of entry) in
-    let first : Makes setup me ran b b' made made' =
-    subst (λ (signs : List Sign). Makes setup me signs b b' made made') (sym (one-signs setup me b slot entry)) (ran-makes setup me b b' slot entry made mid made' is tells noted silent) in
+closed-makes setup me b b' slot entry made made' made'' first headed =
+    let ran : List Sign = actions_signs setup me b slot 0 entry.actions in
     let last : Option Checkpoint = made_last (bench_after setup me.shard ran b).log in
     let log_is : made_last b'.log ≡ last = ap (λ (c : Bench). made_last c.log) first.bench_is in
     let heads : List Sign = headed_signs setup me last in
@@ -200,6 +197,118 @@ execution-makes setup me b b' slot entry made mid made' made'' is tells noted si
       bench_is = first.bench_is
           ∙ sym (bench-append setup me.shard heads ran b ∙ bench-headed setup me last (bench_after setup me.shard ran b));
     }
+
+-- ---- the actions of a slot, one after the other
+
+module _ (setup : Setup) (me : NodeId) (slot : ℕ) where
+  abbrev OneActed : Bench → ℕ → Action → List Sign
+  OneActed b place action = ran_signs setup me b slot place action (session_in action) (executed setup me.shard b action)
+
+  abbrev Acted : Bench → ℕ → List Action → List Sign
+  Acted b place actions = actions_signs setup me b slot place actions
+
+  signs-push : (b : Bench) (place : ℕ) (xs : List Action) (x : Action)
+      → Acted b place (xs ++ x ∷ []) ≡ OneActed (bench_after setup me.shard (Acted b place xs) b) (place + length xs) x ++ Acted b place xs
+  signs-push b place [] x =
+      let same : place ≡ place + 0 = omega arith in
+      ap (λ (n : ℕ). OneActed b n x) same ∙ sym (append-nil (OneActed b (place + 0) x))
+  signs-push b place (y ∷ ys) x =
+      let first = OneActed b place y in
+      let b' = bench_after setup me.shard first b in
+      let rest = Acted b' (suc place) ys in
+      let same : suc place + length ys ≡ place + length (y ∷ ys) = omega arith in
+      ap (λ (s : List Sign). s ++ first) (signs-push b' (suc place) ys x)
+      ∙ append_assoc (OneActed (bench_after setup me.shard rest b') (suc place + length ys) x) rest first
+      ∙ ap (λ (c : Bench). OneActed c (suc place + length ys) x ++ (rest ++ first)) (sym (bench-append setup me.shard rest first b))
+      ∙ ap (λ (n : ℕ). OneActed (bench_after setup me.shard (rest ++ first) b) n x ++ (rest ++ first)) same
+
+module _ (genesis : List Object) (approves : Tx → Bool) (held : Held) (log : Log) (slot : ℕ) where
+  abbrev At : Config → Setup
+  At config = deployed_setup config genesis approves
+
+  abbrev b : Bench
+  b = bench_of log held
+
+  -- before the first action
+  pub ran-none : (draft : Draft) (made : Option Checkpoint) → held.archived.kept ≡ kept_of log → RanSome (At held.config) held b held draft draft slot [] made
+  ran-none draft made kept_is = record {
+    leaves = record {
+      log = log;
+      kept_is = kept_is;
+      config_is = refl;
+      me_is = refl;
+      makes = record { tells = tells-nothing draft; bench_is = refl };
+    };
+    made_is = λ some. absurd (omega (arith, some));
+  }
+
+  module _ (draft draft' draft'' : Draft) (held' held'' : Held) (xs : List Action) (x : Action) (before made : Option Checkpoint)
+      (some : RanSome (At held.config) held b held' draft draft' slot xs before) (place : ℕ) (place_is : place ≡ length xs)
+      (one : RanOne (At held'.config) held' (bench_of some.leaves.log held') held'' draft' draft'' slot place x made) where
+    abbrev Before : List Sign
+    Before = actions_signs (At held.config) held.me b slot 0 xs
+
+    abbrev w : Bench
+    w = bench_after (At held.config) held.me.shard Before b
+
+    abbrev Now : ℕ → List Sign
+    Now n = OneActed (At held.config) held.me slot w n x
+
+    next : Makes (At held.config) held.me (Now place) w (bench_of one.leaves.log held'') draft' draft''
+    next =
+        let P : Config × (NodeId × Bench) → Type 0 = λ p.
+        Makes (At p.0) p.1.0 (OneActed (At p.0) p.1.0 slot p.1.1 place x) p.1.1 (bench_of one.leaves.log held'') draft' draft'' in
+        subst P (λ i. (some.leaves.config_is i, (some.leaves.me_is i, some.leaves.makes.bench_is i))) one.leaves.makes
+
+    both : Makes (At held.config) held.me (Now place ++ Before) b (bench_of one.leaves.log held'') draft draft''
+    both = record {
+      tells = tells-more Before (Now place) draft draft' draft'' some.leaves.makes.tells next.tells;
+      bench_is = next.bench_is ∙ sym (bench-append (At held.config) held.me.shard (Now place) Before b);
+    }
+
+    -- and one more
+    pub ran-more : RanSome (At held.config) held b held'' draft draft'' slot (xs ++ x ∷ []) made
+    ran-more =
+        let at : place ≡ 0 + length xs = omega (arith, place_is) in
+        let signs : Now place ++ Before ≡ actions_signs (At held.config) held.me b slot 0 (xs ++ x ∷ []) =
+        ap (λ (n : ℕ). Now n ++ Before) at ∙ sym (signs-push (At held.config) held.me slot b 0 xs x) in
+        let Q : List Sign → Type 0 = λ all. Makes (At held.config) held.me all b (bench_of one.leaves.log held'') draft draft'' in
+        record {
+          leaves = record {
+            log = one.leaves.log;
+            kept_is = one.leaves.kept_is;
+            config_is = one.leaves.config_is ∙ some.leaves.config_is;
+            me_is = one.leaves.me_is ∙ some.leaves.me_is;
+            makes = subst Q signs both;
+          };
+          made_is = λ more. one.made_is;
+        }
+
+  -- after the last one
+  pub ran-all : (entry : Entry) (draft draft' draft'' : Draft) (held' : Held) (made : Option Checkpoint) → 0 < length entry.actions
+      → RanSome (At held.config) held b held' draft draft' slot entry.actions made → TellsSigns (headed_signs (At held'.config) held'.me made) draft' draft''
+      → Leaves (At held.config) held (execution_signs (At held.config) held.me b slot entry) b held' draft draft''
+  ran-all entry draft draft' draft'' held' made some ran told =
+      let leaves = ran.leaves in
+      let P : Config × (NodeId × Option Checkpoint) → Type 0 = λ p. TellsSigns (headed_signs (At p.0) p.1.0 p.1.1) draft' draft'' in
+      let headed : TellsSigns (headed_signs (At held.config) held.me (made_last leaves.log)) draft' draft'' =
+      subst P (λ i. (leaves.config_is i, (leaves.me_is i, ran.made_is some i))) told in
+      record {
+        log = leaves.log;
+        kept_is = leaves.kept_is;
+        config_is = leaves.config_is;
+        me_is = leaves.me_is;
+        makes = closed-makes (At held.config) held.me b (bench_of leaves.log held') slot entry draft draft' draft'' leaves.makes headed;
+      }
+
+-- an action that stands among those that have encodings has one
+some-fits : (actions : List Action) (n : ℕ) (d : Action) → n < length actions → AllByRecursion ActionFits actions → ActionFits (get_or actions n d)
+some-fits [] n d less all = absurd (omega (arith, less))
+some-fits (action ∷ more) zero d less all = all.0
+some-fits (action ∷ more) (suc n) d less all = some-fits more n d (omega (arith, less)) all.1
+
+pub fit-at : (actions : List Action) (n : ℕ) (action : Action) → n < length actions → action ≡ get_or actions n action → AllByRecursion ActionFits actions → ActionFits action
+fit-at actions n action less is all = subst ActionFits (sym is) (some-fits actions n action less all)
 
 -- ---- a vote is given only on a fit session
 

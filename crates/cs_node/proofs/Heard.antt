@@ -25,10 +25,10 @@ use Rattle.cs_node_state.specs.Setup.{Setup}
 use Rattle.cs_node_rules.specs.Members.{is_other_member}
 use Rattle.cs_node_rules.specs.Net.{Net}
 use Rattle.cs_node_rules.specs.Signs.{Sign, Dropped, said_signs}
-use Rattle.cs_node_rules.specs.Site.{Carrier, Mark, Site, View, plain}
+use Rattle.cs_node_rules.specs.Site.{Carriers, Mark, Site, View, plain}
 use Rattle.cs_node_rules.specs.Trail.{handed, drops, taking_marks, member_marks, reply_marks, want_marks, class_marks, message_marks}
 use Rattle.cs_node_rules.specs.Deployment.{site_of}
-use Rattle.cs_node_rules.specs.Carrying.{is_of_order, is_ordering, Carries}
+use Rattle.cs_node_rules.specs.Carrying.{is_of_order, is_ordering, Carries, AllCarry}
 use Rattle.cs_node_pool.specs.Deployed.{deployed_setup}
 use Rattle.cs_sbac.specs.Held.{Held, bench_of}
 use Rattle.cs_node.specs.declared.engine.Engine.{Engine}
@@ -71,7 +71,7 @@ pub replied-some : {M : Type 0} (found : Option (Outgoing M)) (h : Member M) (sl
 replied-some {M} None h slot to old new Stands called = let q : true ≡ false = called.0 in cc
 replied-some {M} (Some out) h slot to old new Stands called = record { out = out; is = refl; grown = called.1; stood = called.2 }
 
-module _ {O J M : Type 0} (stands : O → Member M → Type 0) (approves : J → Tx → Bool) (rules : Machine M) (carried : Carrier M) (net : Net) (core : Engine O J M) (genesis : List Object) (log : Log) (h : Member M) (made made' : Draft) (seated : IsSeated stands core log h) where
+module _ {O J M : Type 0} (stands : O → Member M → Type 0) (approves : J → Tx → Bool) (rules : Machine M) (carried : Carriers M) (net : Net) (core : Engine O J M) (genesis : List Object) (log : Log) (h : Member M) (made made' : Draft) (seated : IsSeated stands core log h) where
   abbrev setup : Setup
   setup = deployed_setup core.sbac.config genesis (approves core.judge)
 
@@ -156,7 +156,7 @@ module _ {O J M : Type 0} (stands : O → Member M → Type 0) (approves : J →
 -- ---- what a message led to
 
 -- it is what its variant led to
-pub as-said : {O J M A E : Type 0} (stands : O → Member M → Type 0) (approves : J → Tx → Bool) (rules : Machine M) (carrier : Carrier M) (engine engine' : Engine O J M) (draft draft' : Draft) (result : Result A E)
+pub as-said : {O J M A E : Type 0} (stands : O → Member M → Type 0) (approves : J → Tx → Bool) (rules : Machine M) (carrier : Carriers M) (engine engine' : Engine O J M) (draft draft' : Draft) (result : Result A E)
     (sender : NodeId) (m said : Message) → m ≡ said
     → LeadsBy stands approves rules carrier engine engine' draft draft' result (λ site v. message_marks site v sender said)
     → LeadsBy stands approves rules carrier engine engine' draft draft' result (λ site v. message_marks site v sender m)
@@ -165,7 +165,7 @@ as-said {O} {J} {M} stands approves rules carrier engine engine' draft draft' re
     subst Leads (sym is) led
 
 -- where table and pool did what it says
-pub signs-said : {O J M A E : Type 0} (stands : O → Member M → Type 0) (approves : J → Tx → Bool) (rules : Machine M) (carrier : Carrier M) (engine : Engine O J M) (held : Held) (draft draft' : Draft) (result : Result A E)
+pub signs-said : {O J M A E : Type 0} (stands : O → Member M → Type 0) (approves : J → Tx → Bool) (rules : Machine M) (carrier : Carriers M) (engine : Engine O J M) (held : Held) (draft draft' : Draft) (result : Result A E)
     (sender : NodeId) (m said : Message) → m ≡ said
     → ((site : Site M) (v : View M) → message_marks site v sender said ≡ plain (said_signs site.setup v.me v.bench sender said))
     → Does (approves engine.judge) engine.sbac held draft draft' result (λ setup b. said_signs setup engine.sbac.me b sender said)
@@ -188,7 +188,7 @@ pub record IsUnanswered (m : Message) : Type 0 where
   pub want : (slot : ℕ) → m ≡ message.Want slot → ⊥
   pub head : (checkpoint : Checkpoint) → m ≡ message.Head checkpoint → ⊥
 
-module _ {M : Type 0} (machine : Machine M) (site : Site M) (carries : Carries machine site.carrier) (v : View M) (sender : NodeId) where
+module _ {M : Type 0} (machine : Machine M) (site : Site M) (carries : Carries site.setup.version machine site.carrier) (v : View M) (sender : NodeId) where
   -- what is none of the order's is dropped
   unread : (m : Message) (read : Option M) → site.carrier.read m ≡ read → is_ordering m ≡ false → member_marks site v sender read ≡ drops Role
   unread m None is other = refl
@@ -211,9 +211,9 @@ module _ {M : Type 0} (machine : Machine M) (site : Site M) (carries : Carries m
   other-marks m other = heard-class m (class_of m) refl refl
 
 -- so the order hears it
-pub other-said : {O J M A E : Type 0} (stands : O → Member M → Type 0) (approves : J → Tx → Bool) (rules : Machine M) (carrier : Carrier M) (engine engine' : Engine O J M) (draft draft' : Draft) (result : Result A E)
-    (sender : NodeId) (m : Message) → Carries rules carrier → IsUnanswered m
-    → LeadsBy stands approves rules carrier engine engine' draft draft' result (λ site v. member_marks site v sender (carrier.read m))
+pub other-said : {O J M A E : Type 0} (stands : O → Member M → Type 0) (approves : J → Tx → Bool) (rules : Machine M) (carrier : Carriers M) (engine engine' : Engine O J M) (draft draft' : Draft) (result : Result A E)
+    (sender : NodeId) (m : Message) → AllCarry rules carrier → IsUnanswered m
+    → LeadsBy stands approves rules carrier engine engine' draft draft' result (λ site v. member_marks site v sender (site.carrier.read m))
     → LeadsBy stands approves rules carrier engine engine' draft draft' result (λ site v. message_marks site v sender m)
 other-said {O} {J} {M} stands approves rules carrier engine engine' draft draft' result sender m carries other led = λ net genesis log h seated.
     let site = site_at rules carrier net engine.sbac genesis (approves engine.judge) in
@@ -221,4 +221,4 @@ other-said {O} {J} {M} stands approves rules carrier engine engine' draft draft'
     let setup = deployed_setup engine.sbac.config genesis (approves engine.judge) in
     let After : View M → Type 0 = KeepsView stands approves setup engine' in
     let P : List (Mark M) → Type 0 = λ marks. OnOk result (MakesMarks site marks v draft draft' After) in
-    subst P (other-marks rules site carries v sender m other) (led net genesis log h seated)
+    subst P (other-marks rules site (carries setup.version) v sender m other) (led net genesis log h seated)

@@ -12,14 +12,10 @@ use Rattle.cs_wire.specs.Opened.{opened, keys_of_master}
 use Rattle.cs_wire.specs.Datagram.{datagram_with}
 use Rattle.cs_wire.proofs.Masters.{opened_alike}
 use Rattle.cs_base.specs.Version.{version_of}
-use Rattle.cs_base.specs.declared.version.Version.TheVariants.{One}
-use Rattle.cs_node_rules.specs.Net.{first_keys, net_of}
+use Rattle.cs_node_rules.specs.Net.{net_of}
 use Rattle.cs_node.specs.Speaking.{Speaks}
 
 module _ (config : Config) (master : List ℕ) (liars : List NodeId) (me : NodeId) (keys : Keys) (few : config.shards ≤ 16) (first : config.version ≡ 1) (node : is_node config me ≡ true) (of : IsOfMaster config master me keys) where
-  version_is : keys.version ≡ One
-  version_is = of.version ∙ ap version_of first
-
   row_is : (to : NodeId) (row : Row) → row_of to keys ≡ Some row → row_between master me to ≡ row
   row_is to row held =
       let found = when_some (is_named config to && not (same_name to me)) (Some (row_between master me to)) row (sym (of.rows to) ∙ held) in
@@ -30,12 +26,11 @@ module _ (config : Config) (master : List ℕ) (liars : List NodeId) (me : NodeI
 
   pub of_master : Speaks config (net_of config master liars) keys
   of_master = record {
-    opens = λ bytes. opened_alike config master me keys bytes of
-        ∙ ap (λ version. opened (record (keys_of_master config master me) { version = version }) bytes) (ap version_of first)
-        ∙ ap (λ (n : NodeId). opened (first_keys config master n) bytes) (sym of.me);
+    first = ap version_of first;
+    opens = λ bytes. opened_alike config master me keys bytes of ∙ ap (λ (n : NodeId). opened (keys_of_master config master n) bytes) (sym of.me);
     seals = λ to row held kind body.
-        ap (λ version. datagram_with version row.to keys.me to kind body) version_is
-        ∙ ap (λ (r : Row). datagram_with One r.to keys.me to kind body) (sym (row_is to row held))
-        ∙ ap (λ (n : NodeId). datagram_with One (key_between master n to) keys.me to kind body) (sym of.me);
+        ap (λ version. datagram_with version row.to keys.me to kind body) of.version
+        ∙ ap (λ (r : Row). datagram_with (version_of config.version) r.to keys.me to kind body) (sym (row_is to row held))
+        ∙ ap (λ (n : NodeId). datagram_with (version_of config.version) (key_between master n to) keys.me to kind body) (sym of.me);
     reaches = λ to is_one other. subst IsSome (sym (reached to (ap (λ b. b || is_client to) is_one) (ap (same_name to) (sym of.me) ∙ other))) refl;
   }

@@ -6,7 +6,7 @@ use Rattle.cs_base.specs.declared.config.Config.{Config}
 use Rattle.cs_base.specs.declared.node_id.NodeId.{NodeId}
 use Rattle.cs_base.specs.NodeId.{is_node, same_name}
 use Rattle.cs_tx_types.specs.declared.transaction.Tx.{Tx}
-use Rattle.cs_tx_types.specs.declared.action.Action.{Action}
+use Rattle.cs_tx_types.specs.declared.entry.Entry.{Entry}
 use Rattle.cs_wire_message.specs.declared.message.Message.{Message}
 use Rattle.cs_wire_message.specs.declared.message.Message.TheVariants as message
 use Rattle.cs_wire_message.specs.Classes.{Class, OfOrder, class_of}
@@ -119,7 +119,7 @@ module _ {M : Type 0} (Peer : NodeId → Type 0) (config : Config) (site : Site 
 
     -- ---- rules
 
-    goes-due : (found : Option Action) → GoesIf (due_marks site v found)
+    goes-due : (found : Option Entry) → GoesIf (due_marks site v found)
     goes-due None = tt
     goes-due (Some entry) = goes-deed (Proposing (site.proposed_of entry) (site.machine.proposing v.member (site.proposed_of entry)))
 

@@ -8,9 +8,10 @@ use Rattle.cs_tx_types.specs.declared.session.Session.{Session}
 use Rattle.cs_tx_types.specs.declared.vote.Vote.{Vote}
 use Rattle.cs_tx_types.specs.declared.vote.Vote.TheVariants.{Commit}
 use Rattle.cs_tx_types.specs.declared.action.Action.{Action}
+use Rattle.cs_tx_types.specs.declared.entry.Entry.{Entry}
 use Rattle.cs_wire_message.specs.declared.message.Message.{Message}
 use Rattle.cs_wire_message.specs.declared.message.Message.TheVariants as message
-use Rattle.cs_node_state.specs.Setup.{actions_of, Setup, digest_of, is_concerned_shard, concerned, concerned_below}
+use Rattle.cs_node_state.specs.Setup.{Setup, digest_of, is_concerned_shard, concerned, concerned_below}
 use Rattle.cs_tx_types.specs.Session.{session_in}
 use Rattle.cs_node_rules.specs.Members.{members, except, others}
 use Rattle.cs_node_state.specs.Pool.{Pool, is_pooled}
@@ -160,11 +161,11 @@ module _ (Peer : NodeId → Type 0) where
           let left = bench_after setup me.shard signs b in
           to-append (actions_signs setup me left slot (suc place) more) signs (to-actions left slot (suc place) more) (to-ran b slot place action)
 
-      pub to-execution : me.shard < config.shards → (b : Bench) (slot : ℕ) (entry : Action) → AllTo (execution_signs setup me b slot entry)
+      pub to-execution : me.shard < config.shards → (b : Bench) (slot : ℕ) (entry : Entry) → AllTo (execution_signs setup me b slot entry)
       to-execution low b slot entry =
-          let signs = actions_signs setup me b slot 0 (actions_of entry) in
+          let signs = actions_signs setup me b slot 0 entry.actions in
           let made = made_last (bench_after setup me.shard signs b).log in
-          to-append (headed_signs setup me made) signs (to-headed low made) (to-actions b slot 0 (actions_of entry))
+          to-append (headed_signs setup me made) signs (to-headed low made) (to-actions b slot 0 entry.actions)
 
       pub to-asked : (pool : Pool) → AllTo (asked_again setup me pool)
       to-asked [] = tt

@@ -24,7 +24,7 @@ sealed-so config net keys speaks to kind body old bytes none s =
     s.is ∙ ap (λ (o : Bytes). o ++ datagram_with keys.version s.row.to keys.me to kind body) none ∙ speaks.seals to s.row s.held kind body
 
 -- and of a message's kind and body it is the message's
-pub written-so : (net : Net) (me to : NodeId) (m : Message) (kind : ℕ) (body : Bytes) → kind ≡ kind_of m → body ≡ body_of One m → net.datagram me to kind body ≡ sealed_by_net net me to m
+pub written-so : (net : Net) (me to : NodeId) (m : Message) (kind : ℕ) (body : Bytes) → kind ≡ kind_of m → body ≡ body_of net.version m → net.datagram me to kind body ≡ sealed_by_net net me to m
 written-so net me to m kind body is-kind is-body =
     ap (λ (k : ℕ). net.datagram me to k body) is-kind ∙ ap (net.datagram me to (kind_of m)) is-body
 
@@ -82,7 +82,7 @@ names-sealed net me m outs outs' whole names i d lt grew so-far =
 
 -- what was written once was sealed for one more, who has a key
 pub name-sealed : (net : Net) (keys : Keys) (m : Message) (kind : ℕ) (body : Bytes) (outs outs' whole : List Out) (names : List NodeId) (i : ℕ) (d : NodeId) → i < length names
-    → kind ≡ kind_of m → body ≡ body_of One m
+    → kind ≡ kind_of m → body ≡ body_of net.version m
     → (IsSome (row_of (get_or names i d) keys) → outs' ≡ outs ++ record { to = get_or names i d; bytes = net.datagram keys.me (get_or names i d) kind body } ∷ [])
     → AllReached keys (to_each (drop i names) m) × (outs ++ outs_for net keys.me (to_each (drop i names) m) ≡ whole)
     → AllReached keys (to_each (drop (i + 1) names) m) × (outs' ++ outs_for net keys.me (to_each (drop (i + 1) names) m) ≡ whole)

@@ -2,6 +2,7 @@
 use Rattle.std.specs.Prelude.{◌&&◌}
 use Rattle.std.proofs.Common.{◌≡◌, ℕ, ◌*◌, nat_lt, nat_le, ◌<◌, Bool, true, false, List, ◌∷◌, ◌++◌, [], refl, ap, sym, subst, ◌∙◌}
 use Rattle.cs_base.specs.declared.config.Config.{Config}
+use Rattle.cs_base.specs.Version.{version_of}
 use Rattle.cs_base.specs.declared.node_id.NodeId.{NodeId}
 use Rattle.cs_base.specs.NodeId.{is_node}
 use Rattle.cs_tx_value.specs.declared.object.Object.{Object}
@@ -11,7 +12,7 @@ use Rattle.cs_order.specs.Deeds.{Member, Machine}
 use Rattle.cs_wire.specs.declared.keys.Keys.{Keys}
 use Rattle.cs_node_state.specs.Setup.{Setup}
 use Rattle.cs_node_rules.specs.Net.{Net}
-use Rattle.cs_node_rules.specs.Site.{Carrier, Input, Mark, In, Site, View, view_after, signs_of}
+use Rattle.cs_node_rules.specs.Site.{Carriers, Input, Mark, In, Site, View, view_after, signs_of}
 use Rattle.cs_node_rules.specs.Trail.{turn_marks, input_marks, event_marks}
 use Rattle.cs_node_rules.specs.Deployment.{site_of}
 use Rattle.cs_node_pool.specs.Deployed.{deployed_setup}
@@ -42,6 +43,7 @@ module _ {O J M : Type 0} (stands : O → Member M → Type 0) (approves : J →
           f_is = same-f ∙ seated.f_is ∙ sym (ap (λ (c : Config). c.f) same-config);
           index_is = same-index ∙ seated.index_is ∙ sym (ap (λ (n : NodeId). n.index) same-me);
           node = subst N (λ i. (sym same-config i, sym same-me i)) seated.node;
+          first = ap (λ (c : Config). version_of c.version) same-config ∙ seated.first;
         };
         view_is = ap (λ (name : NodeId). node_view name (bench_of log' held) h') same-me;
         genesis = genesis;
@@ -60,7 +62,7 @@ module _ {O J M : Type 0} (stands : O → Member M → Type 0) (approves : J →
       let Q : Setup → Type 0 = λ t. F t (core_view w.bench.log core.sbac w.member) in
       subst P s.view_is (subst Q s.setup_is (all s.genesis w.bench.log w.member s.seated))
 
-  module _ (rules : Machine M) (carried : Carrier M) (net : Net) (core core' : Engine O J M) (now next : Draft) where
+  module _ (rules : Machine M) (carried : Carriers M) (net : Net) (core core' : Engine O J M) (now next : Draft) where
     abbrev Turned : Bool → Setup → View M → Type 0
     Turned went setup u = TurnDone (site_of setup net rules carried) (turn_marks (site_of setup net rules carried) u) u went now next (KeepsView stands approves setup core')
 
@@ -92,7 +94,7 @@ module _ {O J M : Type 0} (stands : O → Member M → Type 0) (approves : J →
           turn-ends site v old now next After Later before (turn_marks site w) s refl (subst B e turned)
 
   -- an input, and then the rules until none applies
-  pub event-done : (rules : Machine M) (carried : Carrier M) (net : Net) (core core' core'' : Engine O J M) (setup : Setup) (v : View M) (input : Input) (start mid made : Draft) → KeepsView stands approves setup core v → start ≡ nothing_said
+  pub event-done : (rules : Machine M) (carried : Carriers M) (net : Net) (core core' core'' : Engine O J M) (setup : Setup) (v : View M) (input : Input) (start mid made : Draft) → KeepsView stands approves setup core v → start ≡ nothing_said
       → ((genesis : List Object) (log : Log) (h : Member M) → IsSeated stands core log h → (let t : Setup = deployed_setup core.sbac.config genesis (approves core.judge) in MakesMarks (site_of t net rules carried) (input_marks (site_of t net rules carried) (core_view log core.sbac h) input) (core_view log core.sbac h) start mid (KeepsView stands approves t core')))
       → ((genesis : List Object) (log : Log) (h : Member M) → IsSeated stands core' log h → (let t : Setup = deployed_setup core'.sbac.config genesis (approves core'.judge) in Settles (site_of t net rules carried) (core_view log core'.sbac h) mid made (KeepsView stands approves t core'')))
       → Drafts (site_of setup net rules carried) v input made (KeepsView stands approves setup core'')
@@ -109,6 +111,7 @@ module _ {O J M : Type 0} (stands : O → Member M → Type 0) (approves : J →
 -- keys speak in a net as far as it has nodes
 speaks-on : (config config' : Config) (net : Net) (keys : Keys) → config.shards ≡ config'.shards → config.f ≡ config'.f → Speaks config net keys → Speaks config' net keys
 speaks-on config config' net keys same-shards same-f speaks = record {
+  first = speaks.first;
   opens = speaks.opens;
   seals = speaks.seals;
   reaches = λ to node other.

@@ -21,7 +21,7 @@ use Rattle.cs_node_state.specs.Admission.{due}
 use Rattle.cs_node_rules.specs.Members.{others}
 use Rattle.cs_node_rules.specs.Net.{Net}
 use Rattle.cs_node_rules.specs.Signs.{Sign, bench_after, sends, vote_signs, asked_again}
-use Rattle.cs_node_rules.specs.Site.{Carrier, Mark, Ordered, Site, View, view_after}
+use Rattle.cs_node_rules.specs.Site.{Carriers, Mark, Ordered, Site, View, view_after}
 use Rattle.cs_node_rules.specs.Trail.{handed, with_deed, entered_view, again_marks, waiting_marks, tick_marks}
 use Rattle.cs_node_rules.specs.Deployment.{site_of}
 use Rattle.cs_node_pool.specs.Deployed.{deployed_setup}
@@ -85,7 +85,7 @@ some-fits (y ∷ all) (suc k) x less fits = some-fits all k x (omega (arith, les
 pub fits-at : (all : List Session) (k : ℕ) (x : Session) → k < length all → x ≡ get_or all k x → SessionsFit all → SessionFits x
 fits-at all k x less is fits = subst SessionFits (sym is) (some-fits all k x less fits)
 
-module _ {O J M : Type 0} (stands : O → Member M → Type 0) (approves : J → Tx → Bool) (rules : Machine M) (carried : Carrier M) (net : Net) (core : Engine O J M) (genesis : List Object) (log : Log) (h : Member M) (made : Draft) (seated : IsSeated stands core log h) where
+module _ {O J M : Type 0} (stands : O → Member M → Type 0) (approves : J → Tx → Bool) (rules : Machine M) (carried : Carriers M) (net : Net) (core : Engine O J M) (genesis : List Object) (log : Log) (h : Member M) (made : Draft) (seated : IsSeated stands core log h) where
   abbrev setup : Setup
   setup = deployed_setup core.sbac.config genesis (approves core.judge)
 
@@ -152,7 +152,7 @@ bench-again {M} site v =
     ∙ bench-sends site.setup v.me.shard (others site.setup.f v.me (v.me.shard ∷ [])) (message.Want (length (chosen_in v.member.deeds))) v.bench
 
 -- both
-pub ticked-here : {O J M : Type 0} (stands : O → Member M → Type 0) (approves : J → Tx → Bool) (rules : Machine M) (carried : Carrier M) (net : Net) (core core' : Engine O J M) (genesis : List Object) (log : Log) (h : Member M) (made mid made' : Draft)
+pub ticked-here : {O J M : Type 0} (stands : O → Member M → Type 0) (approves : J → Tx → Bool) (rules : Machine M) (carried : Carriers M) (net : Net) (core core' : Engine O J M) (genesis : List Object) (log : Log) (h : Member M) (made mid made' : Draft)
     → (let t : Setup = deployed_setup core.sbac.config genesis (approves core.judge) in MakesMarks (site_of t net rules carried) (again_marks (site_of t net rules carried) (core_view log core.sbac h)) (core_view log core.sbac h) made mid (KeepsView stands approves t core))
     → ((genesis : List Object) (log : Log) (h : Member M) → IsSeated stands core log h → (let t : Setup = deployed_setup core.sbac.config genesis (approves core.judge) in MakesMarks (site_of t net rules carried) (waiting_marks (site_of t net rules carried) (core_view log core.sbac h) (is_some (due t core.sbac.pool))) (core_view log core.sbac h) mid made' (KeepsView stands approves t core')))
     → (let t : Setup = deployed_setup core.sbac.config genesis (approves core.judge) in MakesMarks (site_of t net rules carried) (tick_marks (site_of t net rules carried) (core_view log core.sbac h)) (core_view log core.sbac h) made made' (KeepsView stands approves t core'))

@@ -6,3 +6,4 @@ pub mod Proposals
 pub mod Steps
 pub mod Signing
 pub mod Cores
+pub mod Executions

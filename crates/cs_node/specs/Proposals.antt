@@ -1,19 +1,13 @@
 -- Proposed entries, as a node reads them.
 use Rattle.std.specs.Prelude.{ℕ, Bool, false, if◌then◌else◌, List, [], ◌∷◌, Option, Some, None}
-use Rattle.cs_tx_types.specs.declared.action.Action.{Action}
 use Rattle.cs_order.specs.declared.proposed.Proposed.{Proposed}
 use Rattle.cs_node_state.specs.Setup.{Setup}
 use Rattle.cs_node_state.specs.Pool.{Pool}
 use Rattle.cs_node_state.specs.Admission.{admits}
-use Rattle.cs_node_rules.specs.Deployment.{entry_or_void}
-use Rattle.cs_node_wire.specs.Proposals.{entry_read}
-
--- of bytes that are no entry a fixed one, which is Void
-abbrev pub entry_in : Proposed → Action
-entry_in proposed = entry_or_void (entry_read proposed)
+use Rattle.cs_node_rules.specs.Deployment.{entry_in}
 
 abbrev pub pool_admits : Setup → ℕ → Pool → Proposed → Bool
-pool_admits setup shard pool proposed = admits setup shard pool (entry_in proposed)
+pool_admits setup shard pool proposed = admits setup shard pool (entry_in setup.version proposed)
 
 abbrev pub admits_pending : Setup → ℕ → Pool → Option Proposed → Bool
 admits_pending setup shard pool None = false

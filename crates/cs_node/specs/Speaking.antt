@@ -3,6 +3,7 @@ use Rattle.std.specs.Prelude.{◌≡◌, ℕ, true, false, Option, Some, None, O
 use Rattle.cs_base.specs.declared.config.Config.{Config}
 use Rattle.cs_base.specs.declared.node_id.NodeId.{NodeId}
 use Rattle.cs_base.specs.NodeId.{is_node, same_name}
+use Rattle.cs_base.specs.declared.version.Version.TheVariants.{One}
 use Rattle.cs_wire.specs.declared.input.Input.{Input as Given}
 use Rattle.cs_wire.specs.declared.input.Input.TheVariants as given
 use Rattle.cs_wire.specs.declared.keys.Row.{Row}
@@ -24,8 +25,9 @@ sender_of (Ok said) = Some said.0
 sender_of (Err error) = None
 
 -- The keys open what the net opens for their holder, seal as the net seals, and reach all nodes of the configuration but
--- their holder. A client is answered where a datagram opened as from it, so it has a key then.
+-- their holder. A client is answered where a datagram opened as from it, so it has a key then. The net is of version 1.
 pub record Speaks (config : Config) (net : Net) (keys : Keys) : Type 0 where
+  pub first : net.version ≡ One
   pub opens : (bytes : Bytes) → opened keys bytes ≡ net.opened keys.me bytes
   pub seals : (to : NodeId) (row : Row) → row_of to keys ≡ Some row →
       (kind : ℕ) (body : Bytes) → datagram_with keys.version row.to keys.me to kind body ≡ net.datagram keys.me to kind body

@@ -1,6 +1,7 @@
 //! What applies the rules of a node.
 ghost use Rattle.std.specs.Prelude.{◌≡◌, ◌++◌, ◌≤◌, ◌<◌, IfOk, OnOk, List, length, true};
 ghost use Rattle.cs_base.specs.declared.version.Version.TheVariants.{One};
+ghost use Rattle.cs_base.specs.Version.{version_of};
 ghost use Rattle.cs_tx_value.specs.declared.object.Object.{Object as AnyObject};
 ghost use Rattle.cs_order.specs.declared.answers.May.TheVariants.{Free, Only};
 ghost use Rattle.cs_order.specs.Deeds.{Member, chosen_in};
@@ -101,7 +102,7 @@ impl<O: Carried, J: Judge + Drop> Engine<O, J> {
         outgoing: Vec<Outgoing<O::Message>>,
     ) -> Result<(), Memory>
         ensures { (net : Net) (genesis : List AnyObject) (h : Member O.Message) →
-            O.stands self.now.order h →
+            version_of self.now.sbac.config.version ≡ One → O.stands self.now.order h →
             let approves = J.is_approved self.now.judge in
             let site = site_at O.rules O.carrier net self.now.sbac genesis approves in
             let said = handed site self.now.sbac.me outgoing.items in
@@ -151,7 +152,7 @@ impl<O: Carried, J: Judge + Drop> Engine<O, J> {
             let held = self.now.sbac in
             IfOk result (λ yes. yes ≡ pool_admits setup held.me.shard held.pool proposed.now) }
     {
-        match read_entry(alloc, proposed)? {
+        match read_entry(alloc, proposed, self.sbac.version())? {
             None => Ok(false),
             Some(entry) => self.sbac.admits(alloc, &entry, &self.judge),
         }
@@ -183,7 +184,7 @@ impl<O: Carried, J: Judge + Drop> Engine<O, J> {
         match self.sbac.due(alloc)? {
             None => Ok(false),
             Some(entry) => {
-                let proposed = propose_entry(alloc, &entry)?;
+                let proposed = propose_entry(alloc, &entry, self.sbac.version())?;
                 let mut outgoing = Vec::new(alloc);
                 self.order.propose(alloc, proposed, &mut outgoing)?;
                 hand_out::<O>(alloc, &self.sbac, draft, outgoing)?;

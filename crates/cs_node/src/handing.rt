@@ -6,7 +6,7 @@ ghost use Rattle.cs_node.specs.Cores.{AtEverySite};
 
 use crate::draft::Draft;
 use crate::members::{is_other_member, others};
-use cs_base::{Memory, NodeId};
+use cs_base::{Memory, NodeId, Version};
 use cs_node_wire::Carried;
 use cs_order::Outgoing;
 use cs_sbac::Sbac;
@@ -23,7 +23,7 @@ fn say_out<O: Carried>(
         OnOk result (TellsSigns (out_signs site sbac.now.me out.to out.message) draft.old draft.new)) }
 {
     let me = sbac.me();
-    let message = O::write(alloc, &out.message)?;
+    let message = O::write(alloc, &out.message, Version::One)?;
     match out.to {
         None => {
             let names = others(alloc, sbac.config(), me, &[me.shard])?;

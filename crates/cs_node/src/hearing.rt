@@ -17,7 +17,7 @@ use crate::heads::hear_head;
 use crate::members::is_other_member;
 use crate::submits::submit;
 use crate::votes::hear_vote;
-use cs_base::{Memory, NodeId};
+use cs_base::{Memory, NodeId, Version};
 use cs_node_rules::Cause;
 use cs_node_state::Ballot;
 use cs_node_wire::Carried;
@@ -104,9 +104,9 @@ impl<O: Carried, J: Judge + Drop> Engine<O, J> {
         requires { MessageFits One message }
         ensures { LeadsBy O.stands J.is_approved O.rules O.carrier self.old self.new
             draft.old draft.new result
-            (λ site v. member_marks site v sender (O.carrier.read message)) }
+            (λ site v. member_marks site v sender (site.carrier.read message)) }
     {
-        match O::read(alloc, message)? {
+        match O::read(alloc, message, Version::One)? {
             None => {
                 draft.drop_it(Cause::Role)?;
                 Ok(())

@@ -53,8 +53,9 @@ impl From<Memory> for StartError {
 }
 
 impl<O: Carried, J: Judge + Drop> Core<O, J> {
-    /// The node that holds the keys, which are of version 1, before its first input. The genesis objects of all shards are
-    /// given, each under its key, by which the node knows those of its own.
+    /// The node that holds the keys, which are of version 1 as the configuration is, before its
+    /// first input. The genesis objects of all shards are given, each under its key, by which the node
+    /// knows those of its own.
     pub fn start(
         alloc: Global,
         config: Config,
@@ -64,6 +65,7 @@ impl<O: Carried, J: Judge + Drop> Core<O, J> {
         order: O,
     ) -> Result<Core<O, J>, StartError>
         requires first { keys.version ≡ One }
+        requires version { config.version ≡ 1 }
         requires node { is_node config keys.me ≡ true }
         requires objects { AreObjects genesis.now }
         requires start { O.at_start order }

@@ -18,7 +18,7 @@ use cs_base::{Memory, NodeId, Sequence};
 use cs_check_rules::{Checkpoint, checkpoint_head};
 use cs_sbac::Sbac;
 use cs_tx::{Encoded, Session, Vote};
-use cs_tx_types::{COVERED, checkpoint_fits};
+use cs_tx_types::checkpoint_fits;
 use cs_wire_message::Message;
 use std::alloc::Global;
 
@@ -108,25 +108,20 @@ pub fn ask_again(alloc: Global, sbac: &Sbac, draft: &mut Draft) -> Result<(), Me
     Ok(())
 }
 
-/// Notes a checkpoint, if one was made, and tells it to the other members of the shard. One of 16
-/// leaves, as each that a node makes is, has an encoding in version 1.
+/// Notes a checkpoint, if one was made, and tells it to the other members of the shard.
 pub fn say_made(
     alloc: Global,
     sbac: &Sbac,
     draft: &mut Draft,
     made: Option<Checkpoint>,
 ) -> Result<(), Memory>
-    ensures { IfSome made (λ checkpoint. checkpoint.leaves ≡ COVERED) →
-        AtEverySetup sbac.now.config (λ setup.
-        let signs = headed_signs setup sbac.now.me made in
-        OnOk result (TellsSigns signs draft.old draft.new)) }
+    requires { IfSome made (λ checkpoint. checkpoint.leaves ≡ COVERED) }
+    ensures { AtEverySetup sbac.now.config (λ setup.
+        OnOk result (TellsSigns (headed_signs setup sbac.now.me made) draft.old draft.new)) }
 {
     let Some(checkpoint) = made else {
         return Ok(());
     };
-    if u64::from(checkpoint.leaves) != COVERED {
-        return Ok(());
-    }
     checkpoint_fits(&checkpoint);
     draft.note_head(checkpoint.number, checkpoint_head(&checkpoint))?;
     let me = sbac.me();

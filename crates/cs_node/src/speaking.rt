@@ -9,7 +9,6 @@ ghost use Rattle.cs_node_rules.specs.Net.{net_of};
 ghost use Rattle.cs_node.specs.Speaking.{Speaks};
 
 /// A node whose keys a master key gave in version 1 speaks in the net of that master key.
-#[tactic(auto, using(crate::proofs::Masters::of_master))]
 pub fn keys_of_a_master_speak()
     ensures { (config : Config) (master : List ℕ) (liars : List NodeId)
         (me : NodeId) (keys : Keys) →

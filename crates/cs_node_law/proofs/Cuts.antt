@@ -7,6 +7,7 @@ use Rattle.std.proofs.lemmas.List.{length_push}
 use Rattle.cs_base.specs.declared.node_id.NodeId.{NodeId}
 use Rattle.cs_base.specs.NodeId.{same_name}
 use Rattle.cs_tx_types.specs.declared.action.Action.{Action}
+use Rattle.cs_tx_types.specs.declared.entry.Entry.{Entry}
 use Rattle.cs_base.specs.declared.version.Version.TheVariants.{One}
 use Rattle.cs_tx_types.specs.Log.{leaf_encoding}
 use Rattle.cs_wire_message.specs.declared.message.Message.{Message}
@@ -28,10 +29,9 @@ use Rattle.cs_node_rules.specs.declared.cause.Cause.{Cause}
 use Rattle.cs_node_rules.specs.declared.cause.Cause.TheVariants as cause
 use Rattle.cs_tx_types.specs.Session.{session_in}
 use Rattle.cs_node_rules.proofs.Heard.{heard}
-use Rattle.cs_node_rules.proofs.Actions.{one-signs}
-use Rattle.cs_node_state.specs.Setup.{actions_of}
+use Rattle.cs_node_rules.proofs.Entries.{only-action, alone-signs}
 use Rattle.cs_node_state.specs.Admission.{due}
-use Rattle.cs_node_state.specs.Bench.{executed, slot_executed, next_leaf}
+use Rattle.cs_node_state.specs.Bench.{executed, action_executed, next_leaf}
 use Rattle.cs_node_rules.specs.Members.{is_other_member, others}
 use Rattle.cs_node_rules.specs.Signs.{Sign, Dropped, Viewed, bench_step, bench_after, sends, headed_signs, actions_signs, execution_signs, asked_again, said_signs}
 use Rattle.cs_node_rules.specs.Site.{Input, Datagram, Tick, Mark, In, Ordered, Plain, Site, View, start_view, view_after, plain}
@@ -102,7 +102,7 @@ module _ (slot roots later : ℕ) (before : roots ≡ slot / 16) (after : later 
       let same : 16 * roots - 1024 ≡ 16 * later - 1024 = omega arith in
       same
 
-module _ {M : Type 0} (site : Site M) where
+module _ {M : Type 0} (site : Site M) (one : (p : Proposed) → length (site.entry_in p).actions ≡ 1) where
   -- marks that leave all three leave them together
   stay-alike : (marks : List (Mark M)) (v : View M) → AllStay marks → IsAlike v → IsAlike (view_after site marks v)
   stay-alike [] v stay alike = alike
@@ -146,8 +146,11 @@ module _ {M : Type 0} (site : Site M) where
     abbrev deed : Deed M
     deed = Advanced (Chosen p) (site.machine.advancing v.member)
 
+    only : (action : Action) × ((site.entry_in p).actions ≡ action ∷ [])
+    only = only-action (site.entry_in p).actions (one p)
+
     abbrev entry : Action
-    entry = site.entry_in p
+    entry = only.0
 
     -- the deed, and what it handed out
     abbrev first : List (Mark M)
@@ -158,25 +161,25 @@ module _ {M : Type 0} (site : Site M) where
 
     -- and the execution
     abbrev done : List (Mark M)
-    done = plain (execution_signs site.setup v.me v.bench slot entry) ++ first
+    done = plain (execution_signs site.setup v.me v.bench slot (site.entry_in p)) ++ first
 
     abbrev u : View M
     u = view_after site done v
 
     member-is : u.member ≡ did deed v.member
-    member-is = member-said site (execution_signs site.setup v.me v.bench slot entry) first v ∙ member-said site (handed site v.me (site.machine.advancing v.member)) (Ordered deed ∷ []) v
+    member-is = member-said site (execution_signs site.setup v.me v.bench slot (site.entry_in p)) first v ∙ member-said site (handed site v.me (site.machine.advancing v.member)) (Ordered deed ∷ []) v
 
     log-before : w.bench.log ≡ v.bench.log
     log-before = log-said site (handed site v.me (site.machine.advancing v.member)) (Ordered deed ∷ []) v (keep-handed site v.me (site.machine.advancing v.member))
 
-    log-after : u.bench.log ≡ (slot_executed site.setup w.me.shard w.bench entry).log
+    log-after : u.bench.log ≡ (action_executed site.setup w.me.shard w.bench entry).log
     log-after =
         let x = session_in entry in
         let ran = executed site.setup v.me.shard v.bench entry in
-        let signs = actions_signs site.setup v.me v.bench slot 0 (actions_of entry) in
+        let signs = actions_signs site.setup v.me v.bench slot 0 (site.entry_in p).actions in
         let made = made_last (bench_after site.setup v.me.shard signs v.bench).log in
         log-ahead site (headed_signs site.setup v.me made) signs first v (keep-headed site.setup v.me made)
-        ∙ ap (λ (one : List Sign). (view_after site (plain one ++ first) v).bench.log) (one-signs site.setup v.me v.bench slot entry)
+        ∙ ap (λ (ran : List Sign). (view_after site (plain ran ++ first) v).bench.log) (alone-signs site.setup v.me v.bench slot (site.entry_in p).actions entry only.1)
         ∙ ran-log site first v v.me v.bench slot 0 entry x ran
 
     abbrev leaf : List ℕ
@@ -223,7 +226,7 @@ module _ {M : Type 0} (site : Site M) where
   TurnAlike v (Some fresh) = IsAlike (view_after site fresh v)
 
   module _ (v : View M) (alike : IsAlike v) where
-    stay-due : (o : Option Action) → TurnAlike v (due_marks site v o)
+    stay-due : (o : Option Entry) → TurnAlike v (due_marks site v o)
     stay-due None = tt
     stay-due (Some entry) =
         let deed : Deed M = Proposing (site.proposed_of entry) (site.machine.proposing v.member (site.proposed_of entry)) in
@@ -343,5 +346,5 @@ module _ {M : Type 0} (site : Site M) where
           let made : h.marks ≡ event_marks site (view_of site past i) h.input = subst R (name-same h.node i same) life.0 in
           subst IsAlike (sym (view_after-append site h.marks (trail_of i past) (start_view site i))) (subst Q (sym made) (event-alike (view_of site past i) h.input before))
 
-  pub cuts-alike : CutsAreAlike site
-  cuts-alike world life i = (lives-alike world life i).kept
+pub cuts-alike : {M : Type 0} (site : Site M) → CutsAreAlike site
+cuts-alike {M} site one world life i = (lives-alike site one world life i).kept

@@ -4,13 +4,15 @@ use Rattle.cs_tx_types.specs.declared.vote.Vote.{Vote}
 use Rattle.cs_tx_types.specs.declared.vote.Vote.TheVariants.{Commit, Abort}
 use Rattle.cs_tx_types.specs.declared.action.Action.{Action}
 use Rattle.cs_tx_types.specs.declared.action.Action.TheVariants.{Prepare, Decide}
+use Rattle.cs_tx_types.specs.declared.entry.Entry.{Entry}
 use Rattle.cs_base.specs.Lists.{IsIn}
-use Rattle.cs_base.specs.Options.{or_else}
 use Rattle.cs_node_state.specs.declared.pooled.Pooled.{Pooled}
 use Rattle.cs_node_state.specs.Setup.{Setup, concerned}
 use Rattle.cs_node_state.specs.Evidence.{is_decided}
 use Rattle.cs_node_state.specs.Pool.{Pool}
-use Rattle.cs_node_state.specs.Admission.{due_vote, decide_due, first_decided, first_waiting, due}
+use Rattle.cs_node_state.specs.Admission.{due_vote, with_decision, decisions, questions, all_due, due}
+use Rattle.cs_node_state.specs.laws.Due.{due_in}
+use Rattle.cs_ledger.proofs.Basics.{in_either}
 use Rattle.cs_node_law.proofs.Pools.{Place}
 
 -- the votes on this session decide so
@@ -38,27 +40,28 @@ voted f shards p vote h = locked p.locked h
     locked true h = commits _ refl h
     locked false h = cc
 
-decided-from : (setup : Setup) (pool : Pool) (entry : Action) → first_decided setup pool ≡ Some entry → IsDueFrom setup pool entry
-decided-from setup [] entry h = cc
-decided-from setup (e ∷ pool) entry h = go (due_vote setup.f (concerned setup e.1.session) e.1) refl (decided-from setup pool entry) h
+decided-from : (setup : Setup) (pool : Pool) (action : Action) → IsIn action (decisions setup pool) → IsDueFrom setup pool action
+decided-from setup [] action i = absurd i
+decided-from setup (e ∷ pool) action i = go (due_vote setup.f (concerned setup e.1.session) e.1) refl (decided-from setup pool action) i
   where
-    go : (o : Option Vote) → due_vote setup.f (concerned setup e.1.session) e.1 ≡ o → (first_decided setup pool ≡ Some entry → IsDueFrom setup pool entry) → decide_due e.1.session (first_decided setup pool) o ≡ Some entry → IsDueFrom setup (e ∷ pool) entry
-    go None d again h = later setup e pool entry (again h)
-    go (Some vote) d again h =
-        let is : entry ≡ Decide vote e.1.session = cc in
-        (e, inl refl, inr (vote, is, voted setup.f (concerned setup e.1.session) e.1 vote d))
+    go : (o : Option Vote) → due_vote setup.f (concerned setup e.1.session) e.1 ≡ o → (IsIn action (decisions setup pool) → IsDueFrom setup pool action) → IsIn action (with_decision e.1.session o (decisions setup pool)) → IsDueFrom setup (e ∷ pool) action
+    go None d again i = later setup e pool action (again i)
+    go (Some vote) d again (inl is) = (e, inl refl, inr (vote, is, voted setup.f (concerned setup e.1.session) e.1 vote d))
+    go (Some vote) d again (inr i) = later setup e pool action (again i)
 
-waiting-from : (setup : Setup) (pool : Pool) (entry : Action) → first_waiting pool ≡ Some entry → IsDueFrom setup pool entry
-waiting-from setup [] entry h = cc
-waiting-from setup (e ∷ pool) entry h = go e.1.locked (waiting-from setup pool entry) h
+waiting-from : (setup : Setup) (pool : Pool) (action : Action) → IsIn action (questions pool) → IsDueFrom setup pool action
+waiting-from setup [] action i = absurd i
+waiting-from setup (e ∷ pool) action i = go e.1.locked (waiting-from setup pool action) i
   where
-    go : (b : Bool) → (first_waiting pool ≡ Some entry → IsDueFrom setup pool entry) → (if b then first_waiting pool else Some (Prepare e.1.session)) ≡ Some entry → IsDueFrom setup (e ∷ pool) entry
-    go true again h = later setup e pool entry (again h)
-    go false again h = let is : entry ≡ Prepare e.1.session = cc in (e, inl refl, inl is)
+    go : (b : Bool) → (IsIn action (questions pool) → IsDueFrom setup pool action) → IsIn action (if b then questions pool else Prepare e.1.session ∷ questions pool) → IsDueFrom setup (e ∷ pool) action
+    go true again i = later setup e pool action (again i)
+    go false again (inl is) = (e, inl refl, inl is)
+    go false again (inr i) = later setup e pool action (again i)
 
-pub due-from : (setup : Setup) (pool : Pool) (entry : Action) → due setup pool ≡ Some entry → IsDueFrom setup pool entry
-due-from setup pool entry h = go (first_decided setup pool) refl h
-  where
-    go : (o : Option Action) → first_decided setup pool ≡ o → or_else o (first_waiting pool) ≡ Some entry → IsDueFrom setup pool entry
-    go (Some decided) f h = decided-from setup pool entry (f ∙ h)
-    go None f h = waiting-from setup pool entry h
+pub all-from : (setup : Setup) (pool : Pool) (action : Action) → IsIn action (all_due setup pool) → IsDueFrom setup pool action
+all-from setup pool action i =
+    elim (in_either action (decisions setup pool) (questions pool) i) [ inl decided ↦ decided-from setup pool action decided | inr waits ↦ waiting-from setup pool action waits ]
+
+-- so is each action of the due entry
+pub due-from : (setup : Setup) (pool : Pool) (entry : Entry) → due setup pool ≡ Some entry → (action : Action) → IsIn action entry.actions → IsDueFrom setup pool action
+due-from setup pool entry h action i = all-from setup pool action (due_in setup pool entry h action i)

@@ -1,5 +1,5 @@
 -- The hashes of a checkpoint that a slot made are digests, and its head is that of the log's last checkpoint.
-use Rattle.std.proofs.Common.{◌≡◌, inl, inr, ℕ, zero, suc, ◌+◌, ◌-◌, ◌%◌, ◌==◌, ◌<◌, Bool, true, List, [], ◌∷◌, ◌++◌, length, get_or, Some, None, refl, sym, ap, ◌∙◌, subst, arith, length-append}
+use Rattle.std.proofs.Common.{◌≡◌, inl, inr, ℕ, zero, suc, ◌+◌, ◌-◌, ◌%◌, ◌==◌, ◌<◌, ◌≤◌, Bool, true, List, [], ◌∷◌, ◌++◌, length, get_or, Some, None, refl, sym, ap, ◌∙◌, subst, arith, length-append}
 use Rattle.std.specs.Prelude.{if◌then◌else◌, nat_lt, replicate, slice_index_or}
 use Rattle.std.specs.Int.{w16, w64, to_be_bytes}
 use Rattle.std.proofs.lemmas.Bool.{cases_Bool, lt-ltb}
@@ -11,7 +11,9 @@ use Rattle.cs_merkle.specs.Tree.{Tree, Empty, Leaf, Node, hash, tree_of, merkle_
 use Rattle.cs_tx_value.specs.Object.{DigestFits}
 use Rattle.cs_tx_types.specs.declared.checkpoint.Checkpoint.{Checkpoint}
 use Rattle.cs_wire_message.specs.declared.message.Message.TheVariants as message
-use Rattle.cs_base.specs.declared.version.Version.TheVariants.{One}
+use Rattle.cs_base.specs.declared.version.Version.{Version}
+use Rattle.cs_base.specs.declared.version.Version.TheVariants.{One, Two}
+use Rattle.cs_tx_types.specs.Log.{leaves_encoding}
 use Rattle.cs_wire_message.specs.Message.{body_of}
 use Rattle.cs_wire_message.proofs.Bytes.{bytes-append, bytes-nil, bytes-16}
 use Rattle.cs_wire_message.proofs.Spelled.{bytes-want}
@@ -93,24 +95,39 @@ module _ (log : Log) (leaf root : List ℕ) (fits : DigestFits root) where
 
 -- ---- the body that tells it
 
-pub bytes-head : (c : Checkpoint) → HasDigests c → IsBytes (body_of One (message.Head c))
-bytes-head c digests =
-    let last = c.table_root ++ [] in
-    let roots = c.leaf_root ++ last in
-    let hashes = c.previous ++ roots in
-    bytes-append (to_be_bytes w16 c.shard) (to_be_bytes w64 c.number ++ hashes) (bytes-16 c.shard)
-    (bytes-append (to_be_bytes w64 c.number) hashes (bytes-want One c.number)
-    (bytes-append c.previous roots digests.previous.1
-    (bytes-append c.leaf_root last digests.leaf_root.1 (bytes-append c.table_root [] digests.table_root.1 bytes-nil))))
+leaves-bytes : (version : Version) (leaves : ℕ) → IsBytes (leaves_encoding version leaves)
+leaves-bytes One leaves = bytes-nil
+leaves-bytes Two leaves = bytes-16 leaves
 
-pub length-head : (c : Checkpoint) → HasDigests c → length (body_of One (message.Head c)) ≡ 106
-length-head c digests =
-    let last = c.table_root ++ [] in
-    let roots = c.leaf_root ++ last in
-    let hashes = c.previous ++ roots in
-    let behind_shard = length-append (to_be_bytes w16 c.shard) (to_be_bytes w64 c.number ++ hashes) in
-    let behind_number = length-append (to_be_bytes w64 c.number) hashes in
-    let behind_previous = length-append c.previous roots in
-    let of_roots = length-append c.leaf_root last in
-    let of_last = length-append c.table_root [] in
-    omega (arith, behind_shard, behind_number, behind_previous, of_roots, of_last, digests.previous.0, digests.leaf_root.0, digests.table_root.0)
+leaves-short : (version : Version) (leaves : ℕ) → length (leaves_encoding version leaves) ≤ 2
+leaves-short One leaves = omega arith
+leaves-short Two leaves = omega arith
+
+module _ (version : Version) (c : Checkpoint) (digests : HasDigests c) where
+  abbrev Counted : List ℕ
+  Counted = leaves_encoding version c.leaves
+
+  abbrev Last : List ℕ
+  Last = c.table_root ++ Counted
+
+  abbrev Roots : List ℕ
+  Roots = c.leaf_root ++ Last
+
+  abbrev Hashes : List ℕ
+  Hashes = c.previous ++ Roots
+
+  pub bytes-head : IsBytes (body_of version (message.Head c))
+  bytes-head =
+      bytes-append (to_be_bytes w16 c.shard) (to_be_bytes w64 c.number ++ Hashes) (bytes-16 c.shard)
+      (bytes-append (to_be_bytes w64 c.number) Hashes (bytes-want version c.number)
+      (bytes-append c.previous Roots digests.previous.1
+      (bytes-append c.leaf_root Last digests.leaf_root.1 (bytes-append c.table_root Counted digests.table_root.1 (leaves-bytes version c.leaves)))))
+
+  pub length-head : length (body_of version (message.Head c)) ≤ 108
+  length-head =
+      let behind_shard = length-append (to_be_bytes w16 c.shard) (to_be_bytes w64 c.number ++ Hashes) in
+      let behind_number = length-append (to_be_bytes w64 c.number) Hashes in
+      let behind_previous = length-append c.previous Roots in
+      let of_roots = length-append c.leaf_root Last in
+      let of_last = length-append c.table_root Counted in
+      omega (arith, behind_shard, behind_number, behind_previous, of_roots, of_last, leaves-short version c.leaves, digests.previous.0, digests.leaf_root.0, digests.table_root.0)

@@ -185,7 +185,7 @@ module _ {M : Type 0} (site : Site M) (me : NodeId) (t : List (Mark M)) (bytes :
     taking sender said m took.Taken e reads other is =
         let heard : site.net.opened Now.me bytes ≡ Ok (record { shard = Now.me.shard; index = sender.index }, said) = subst (λ s. site.net.opened Now.me bytes ≡ Ok (record { shard = s; index = sender.index }, said)) other.home e in
         let taken : IsTaken site Now Given sender.index m = record { said = said; heard = record { bytes = bytes; is_current = refl; reads = heard }; reads = reads } in
-        done-level site me Given (Took_in sender.index m) given ((other.below, other.other, proper said m (fits sender said e) reads, is), taken) refl
+        done-level site me Given (Took_in sender.index m) given ((other.below, other.other, proper.messages said m (fits sender said e) reads, is), taken) refl
     taking sender said m took.Old e reads other is = dropped Old
     taking sender said m took.Far e reads other is = dropped Far
     taking sender said m took.Leader e reads other is = dropped Leader
@@ -307,4 +307,4 @@ event-level {M} site proper me t input fits l =
     let P : List (Mark M) → Type 0 = λ z. IsLevel site me z in
     let l1 : IsLevel site me (first ++ t) = subst P (sym (append_assoc (input_marks site v input) (In input ∷ []) t)) (input-level site proper me t input fits l) in
     subst P (sym (append_assoc (settled site (2 ^ 80) _) first t))
-    (subst (λ w. IsLevel site me (settled site (2 ^ 80) w ++ (first ++ t))) (view_after-append site first t _) (settled-level site me (2 ^ 80) (first ++ t) l1))
+    (subst (λ w. IsLevel site me (settled site (2 ^ 80) w ++ (first ++ t))) (view_after-append site first t _) (settled-level site me proper (2 ^ 80) (first ++ t) l1))

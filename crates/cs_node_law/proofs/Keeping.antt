@@ -12,7 +12,7 @@ use Rattle.cs_wire_message.specs.declared.message.Message.TheVariants as message
 use Rattle.cs_order.specs.declared.answers.Outgoing.{Outgoing}
 use Rattle.cs_node_state.specs.Setup.{Setup, digest_of, concerned}
 use Rattle.cs_node_state.specs.Pool.{Pool, is_pooled}
-use Rattle.cs_node_state.specs.Bench.{Bench, Ran, slot_executed, vote_told}
+use Rattle.cs_node_state.specs.Bench.{Bench, Ran, action_executed, vote_told}
 use Rattle.cs_node_rules.specs.Members.{is_other_member, others}
 use Rattle.cs_node_rules.specs.Signs.{Sign, Dropped, Took, Entered, Viewed, Did, Headed, Kept, Sent, bench_step, sends, vote_signs, own_signs, entered_signs, ran_signs, headed_signs, asked_again}
 use Rattle.cs_node_rules.specs.Site.{Mark, Site, View, view_after, plain}
@@ -100,7 +100,7 @@ module _ {M : Type 0} (site : Site M) where
 
   -- an execution, with the session that it brings into the pool, the votes that are sent and the node's own: one slot more
   pub ran-log : (past : List (Mark M)) (v : View M) (who : NodeId) (b : Bench) (slot place : ℕ) (entry : Action) (x : Session) (ran : Ran) → let w = view_after site past v in
-      (view_after site (plain (ran_signs site.setup who b slot place entry x ran) ++ past) v).bench.log ≡ (slot_executed site.setup w.me.shard w.bench entry).log
+      (view_after site (plain (ran_signs site.setup who b slot place entry x ran) ++ past) v).bench.log ≡ (action_executed site.setup w.me.shard w.bench entry).log
   ran-log past v who b slot place entry x ran =
       let told = vote_told site.setup who.shard x ran in
       let pooled = is_pooled (digest_of site.setup x) b.pool in

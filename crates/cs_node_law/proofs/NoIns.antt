@@ -3,7 +3,7 @@ use Rattle.std.proofs.Common.{◌≡◌, ℕ, zero, suc, ◌+◌, ◌%◌, ◌^�
 use Rattle.std.specs.Prelude.{Ok, Err}
 use Rattle.std.proofs.lemmas.Bool.{cond_both}
 use Rattle.cs_base.specs.declared.node_id.NodeId.{NodeId}
-use Rattle.cs_tx_types.specs.declared.action.Action.{Action}
+use Rattle.cs_tx_types.specs.declared.entry.Entry.{Entry}
 use Rattle.cs_wire_message.specs.declared.message.Message.{Message}
 use Rattle.cs_wire_message.specs.declared.message.Message.TheVariants as message
 use Rattle.cs_wire_message.specs.Classes.{Class, OfOrder, class_of}
@@ -67,7 +67,7 @@ module _ {M : Type 0} (site : Site M) where
       no-append (plain signs) (Ordered deed ∷ []) (no-plain signs) tt
 
   module _ (v : View M) where
-    no-due : (o : Option Action) → NoneIn (due_marks site v o)
+    no-due : (o : Option Entry) → NoneIn (due_marks site v o)
     no-due None = tt
     no-due (Some entry) = no-deed v (Proposing (site.proposed_of entry) (site.machine.proposing v.member (site.proposed_of entry)))
 

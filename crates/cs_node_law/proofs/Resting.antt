@@ -3,7 +3,7 @@ use Rattle.std.proofs.Common.{◌≡◌, ℕ, zero, suc, ◌+◌, ◌-◌, ◌%�
 use Rattle.std.proofs.lemmas.Bool.{cond_both}
 use Rattle.cs_base.specs.declared.node_id.NodeId.{NodeId}
 use Rattle.cs_base.specs.NodeId.{same_name}
-use Rattle.cs_tx_types.specs.declared.action.Action.{Action}
+use Rattle.cs_tx_types.specs.declared.entry.Entry.{Entry}
 use Rattle.cs_order.specs.declared.proposed.Proposed.{Proposed}
 use Rattle.cs_order.specs.declared.answers.Step.{Step}
 use Rattle.cs_order.specs.declared.answers.Step.TheVariants.{Chosen, Moved, Quiet}
@@ -54,7 +54,7 @@ module _ {M : Type 0} (site : Site M) where
     proposing-falls : (v : View M) (p : Proposed) → Proposable (site.machine.may_propose v.member) p → Falls v (with_deed site v (Proposing p (site.machine.proposing v.member p)))
     proposing-falls v p may = said-falls (handed site v.me (site.machine.proposing v.member p)) (Ordered (Proposing p (site.machine.proposing v.member p)) ∷ []) v (rests.proposed v.member p may)
 
-    due-falls : (v : View M) (o : Option Action) → site.machine.may_propose v.member ≡ Free → TurnFalls v (due_marks site v o)
+    due-falls : (v : View M) (o : Option Entry) → site.machine.may_propose v.member ≡ Free → TurnFalls v (due_marks site v o)
     due-falls v None is = tt
     due-falls v (Some entry) is =
         let P : May → Type 0 = λ may. Proposable may (site.proposed_of entry) in

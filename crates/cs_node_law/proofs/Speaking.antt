@@ -7,7 +7,7 @@ use Rattle.cs_base.proofs.Forms.{IsBytes-drop, IsBytes-take}
 use Rattle.cs_hash.specs.Hash.{hmac}
 use Rattle.cs_wire_message.specs.declared.message.Message.{Message}
 use Rattle.cs_base.specs.declared.version.Version.{Version}
-use Rattle.cs_base.specs.declared.version.Version.TheVariants.{One}
+use Rattle.cs_base.specs.declared.version.Version.TheVariants.{One, Two}
 use Rattle.cs_wire_message.specs.Message.{MessageFits}
 use Rattle.cs_wire_message.specs.Body.{message_whole}
 use Rattle.cs_wire_message.proofs.Wholes.{whole_has}
@@ -18,7 +18,7 @@ use Rattle.cs_wire.specs.Datagram.{magic_of, body_in, text_with, datagram_with}
 use Rattle.cs_wire.specs.Heads.{first, head_seen}
 use Rattle.cs_wire.specs.Opens.{IsName, open_fault}
 use Rattle.cs_wire.specs.Opened.{said_by, opened_body, unless_fault, opened}
-use Rattle.cs_wire.proofs.Parts.{head_encoding, HeadFits, head_form, magic_bytes}
+use Rattle.cs_wire.proofs.Parts.{head_encoding, HeadFits, head_form, magic_bytes, magic_four}
 
 -- ---- what opens is within the limits
 
@@ -38,26 +38,27 @@ opened-fits keys bytes said fits e = message-fits keys.version bytes (open_fault
 
 -- ---- the speaker
 
-text-parts : (from to : NodeId) (kind : ℕ) (body : List ℕ) → text_with One from to kind body ≡ head_encoding (record { magic = magic_of One; kind = kind; from = from; to = to; size = length body }) ++ body
+text-parts : (version : Version) (from to : NodeId) (kind : ℕ) (body : List ℕ) → text_with version from to kind body ≡ head_encoding (record { magic = magic_of version; kind = kind; from = from; to = to; size = length body }) ++ body
 unfolding text_with
-text-parts from to kind body = refl
+text-parts One from to kind body = refl
+text-parts Two from to kind body = refl
 
-module _ (key : List ℕ) (from to : NodeId) (kind : ℕ) (body : List ℕ) (named : IsName from) (addressed : IsName to) (small : kind < 256) (short : length body < 2 ^ 32) where
+module _ (version : Version) (key : List ℕ) (from to : NodeId) (kind : ℕ) (body : List ℕ) (named : IsName from) (addressed : IsName to) (small : kind < 256) (short : length body < 2 ^ 32) where
   abbrev Front : Head
-  Front = record { magic = magic_of One; kind = kind; from = from; to = to; size = length body }
+  Front = record { magic = magic_of version; kind = kind; from = from; to = to; size = length body }
 
-  seen : head_seen (datagram_with One key from to kind body) ≡ Some Front
+  seen : head_seen (datagram_with version key from to kind body) ≡ Some Front
   seen =
-      let text = text_with One from to kind body in
+      let text = text_with version from to kind body in
       let tag = hmac key text in
-      let fits : HeadFits Front = ((refl, magic_bytes One), (small, (named, (addressed, short)))) in
-      let is : text ++ tag ≡ head_encoding Front ++ (body ++ tag) = ap (λ (t : List ℕ). t ++ tag) (text-parts from to kind body) ∙ append_assoc (head_encoding Front) body tag in
+      let fits : HeadFits Front = ((magic_four version, magic_bytes version), (small, (named, (addressed, short)))) in
+      let is : text ++ tag ≡ head_encoding Front ++ (body ++ tag) = ap (λ (t : List ℕ). t ++ tag) (text-parts version from to kind body) ∙ append_assoc (head_encoding Front) body tag in
       ap (λ (b : List ℕ). head_seen b) is ∙ ap first (head_form.again Front (body ++ tag) fits)
 
-  said-from : (version : Version) (bytes : List ℕ) (fault : Option OpenError) (found : Option Head) (said : NodeId × Message) → found ≡ Some Front → unless_fault fault (opened_body version bytes found) ≡ Ok said → said.0 ≡ from
-  said-from version bytes (Some error) found said is e = absurd cc
-  said-from version bytes None None said is e = absurd cc
-  said-from version bytes None (Some head) said is e = whole (message_whole version head.kind (body_in bytes)) e
+  said-from : (edition : Version) (bytes : List ℕ) (fault : Option OpenError) (found : Option Head) (said : NodeId × Message) → found ≡ Some Front → unless_fault fault (opened_body edition bytes found) ≡ Ok said → said.0 ≡ from
+  said-from edition bytes (Some error) found said is e = absurd cc
+  said-from edition bytes None None said is e = absurd cc
+  said-from edition bytes None (Some head) said is e = whole (message_whole edition head.kind (body_in bytes)) e
     where
       whole : (o : Option Message) → said_by head.from o ≡ Ok said → said.0 ≡ from
       whole None e = absurd cc
@@ -66,7 +67,7 @@ module _ (key : List ℕ) (from to : NodeId) (kind : ℕ) (body : List ℕ) (nam
           let same : head ≡ Front = cc in
           ap (λ (s : NodeId × Message). s.0) (sym that) ∙ ap (λ (h : Head). h.from) same
 
-  pub opens-from : (keys : Keys) (said : NodeId × Message) → opened keys (datagram_with One key from to kind body) ≡ Ok said → said.0 ≡ from
+  pub opens-from : (keys : Keys) (said : NodeId × Message) → opened keys (datagram_with version key from to kind body) ≡ Ok said → said.0 ≡ from
   opens-from keys said e =
-      let bytes = datagram_with One key from to kind body in
+      let bytes = datagram_with version key from to kind body in
       said-from keys.version bytes (open_fault keys bytes) (head_seen bytes) said seen e

@@ -8,6 +8,7 @@ use Rattle.cs_base.specs.declared.node_id.NodeId.{NodeId}
 use Rattle.cs_tx_types.specs.declared.session.Session.{Session}
 use Rattle.cs_tx_types.specs.declared.vote.Vote as Tx
 use Rattle.cs_tx_types.specs.declared.action.Action.{Action}
+use Rattle.cs_tx_types.specs.declared.entry.Entry.{Entry}
 use Rattle.cs_tx_types.specs.declared.action.Action.TheVariants.{Prepare, Decide}
 use Rattle.cs_wire_message.specs.declared.message.Message.TheVariants as message
 use Rattle.cs_order.specs.declared.proposed.Proposed.{Proposed}
@@ -23,7 +24,7 @@ use Rattle.cs_ledger.specs.Table.{Vote, Commit, Abort, Effect, Voted, Accepted, 
 use Rattle.cs_ledger.specs.Table as Shard
 use Rattle.cs_ledger.specs.ShardWorld.{is_vote}
 use Rattle.cs_ledger.proofs.Basics.{bytes_refl}
-use Rattle.cs_node_state.specs.Setup.{actions_of, Setup, digest_of, concerned, vote_from}
+use Rattle.cs_node_state.specs.Setup.{Setup, digest_of, concerned, vote_from}
 use Rattle.cs_tx_types.specs.Session.{session_in}
 use Rattle.cs_node_state.specs.Admission.{due}
 use Rattle.cs_node_rules.specs.Members.{others}
@@ -38,9 +39,9 @@ use Rattle.cs_base.specs.declared.version.Version.TheVariants.{One}
 use Rattle.cs_tx_types.specs.Log.{leaf_encoding}
 use Rattle.cs_check_rules.specs.Chain.{Log, with_slot, head_of, chain_head, made_last, kept_slots}
 use Rattle.cs_check_rules.specs.Root.{root_under}
-use Rattle.cs_node_rules.proofs.Actions.{some-action}
+use Rattle.cs_node_rules.proofs.Entries.{some-action}
 use Rattle.cs_node_law.proofs.Heads.{root_hashed, last_is}
-use Rattle.cs_node_law.specs.Made.{HasDigests, view_at, log_in, actions_in, HasVotedOn, has_given, IsMade, NodeExecutes, AllMade, IsLevel}
+use Rattle.cs_node_law.specs.Made.{HasDigests, view_at, log_in, actions_in, HasVotedOn, has_given, IsMade, NodeExecutes, AllMade, IsLevel, ReadsProper}
 use Rattle.cs_node_law.proofs.Views.{view_after-append, me-same, member-said, view-said}
 use Rattle.cs_node_law.proofs.Silent.{given-over, voted-over, said-append, said-sends, Adds, said-adds, said-level, IsAfter, said-after, plain-onto, Handed, all-handed, done-level, deed-level, moving-level}
 use Rattle.cs_node_law.proofs.Keeping.{ran-log}
@@ -201,7 +202,7 @@ module _ {M : Type 0} (site : Site M) (me : NodeId) (slot : ℕ) where
 
   module _ (p : Proposed) (chosen : List Proposed) (there : slice_get chosen slot ≡ Some p) where
     abbrev each : List Action
-    each = actions_of (site.entry_in p)
+    each = (site.entry_in p).actions
 
     abbrev before : ℕ
     before = length (actions_in site (take slot chosen))
@@ -247,14 +248,14 @@ module _ {M : Type 0} (site : Site M) (me : NodeId) (slot : ℕ) where
       (said-sends site me u names (message.Head c) (λ to i. inr (own c refl).0)) ((own c refl).1, tt))
 
   -- the checkpoint that a slot made is told
-  pub closed-level : (entry : Action) (t : List (Mark M)) → IsLevel site me (Acted 0 (actions_of entry) t)
+  pub closed-level : (entry : Entry) → 0 < length entry.actions → (t : List (Mark M)) → IsLevel site me (Acted 0 entry.actions t)
       → IsLevel site me (plain (execution_signs site.setup (view_at site me t).me (view_at site me t).bench slot entry) ++ t)
-  closed-level entry t l =
+  closed-level entry some t l =
       let v = view_at site me t in
-      let signs = actions_signs site.setup v.me v.bench slot 0 (actions_of entry) in
+      let signs = actions_signs site.setup v.me v.bench slot 0 entry.actions in
       let left : Bench = bench_after site.setup v.me.shard signs v.bench in
       let log_is : LogAt (plain signs ++ t) ≡ left.log = ap (λ (w : View M). w.bench.log) (view-said site signs t (start_view site me)) in
-      let last = some-log (actions_of entry) t (some-action entry) in
+      let last = some-log entry.actions t some in
       let new = last_is last.before last.leaf last.root last.fits in
       let is : with_slot last.leaf last.root last.before ≡ left.log = sym last.is ∙ log_is in
       let own : (c : Checkpoint) → made_last left.log ≡ Some c → HasDigests c × (chain_head (LogAt (plain signs ++ t)) c.number ≡ Some (head_of c)) =
@@ -279,15 +280,15 @@ module _ {M : Type 0} (site : Site M) (me : NodeId) where
       (λ e. l)
 
   -- what was chosen is executed
-  chosen-level : (t : List (Mark M)) (p : Proposed) → IsLevel site me t → site.machine.step (view_at site me t).member ≡ Chosen p → TurnLevel t (step_marks site (view_at site me t) (Chosen p))
-  chosen-level t p l e =
+  chosen-level : ReadsProper site → (t : List (Mark M)) (p : Proposed) → IsLevel site me t → site.machine.step (view_at site me t).member ≡ Chosen p → TurnLevel t (step_marks site (view_at site me t) (Chosen p))
+  chosen-level proper t p l e =
       let v = view_at site me t in
       let deed : Deed M = Advanced (Chosen p) (site.machine.advancing v.member) in
       let done : List (Mark M) = Ordered deed ∷ t in
       let front = chosen_in v.member.deeds in
       let chosen = front ++ p ∷ [] in
       let slot = length front in
-      let all = actions_of (site.entry_in p) in
+      let all = (site.entry_in p).actions in
       let differ : Chosen p ≡ Quiet → ⊥ = (λ q. cc) in
       let made : AllMade site me done = (((e, differ, refl), tt), l.made) in
       let a : Adds site me done (plain (Handed site me t deed) ++ done) = said-adds site me (Handed site me t deed) done made (all-handed site me t deed) in
@@ -305,7 +306,7 @@ module _ {M : Type 0} (site : Site M) (me : NodeId) where
         made = after.made;
         executed = ap (λ (c : List Proposed). length (actions_in site c)) stays ∙ total ∙ sym (after.count ∙ ap (λ (k : ℕ). k + length all) before);
       } in
-      let closed = closed-level site me slot (site.entry_in p) u level in
+      let closed = closed-level site me slot (site.entry_in p) (some-action site.setup.version (site.entry_in p) (proper.entries p)) u level in
       let moved_here = subst (λ (z : View M). IsLevel site me (plain (execution_signs site.setup z.me z.bench slot (site.entry_in p)) ++ u)) a.view closed in
       let told = execution_signs site.setup v.me v.bench slot (site.entry_in p) in
       let cut : List (Mark M) = cut_marks slot in
@@ -319,7 +320,7 @@ module _ {M : Type 0} (site : Site M) (me : NodeId) where
       (ap (λ (z : List (Mark M)). cut ++ z) onto ∙ sym (append_assoc cut marks t))
       (cut-level slot (plain told ++ u) enough moved_here)
 
-  due-level : (t : List (Mark M)) (o : Option Action) → IsLevel site me t → site.machine.may_propose (view_at site me t).member ≡ Free → due site.setup (view_at site me t).bench.pool ≡ o → TurnLevel t (due_marks site (view_at site me t) o)
+  due-level : (t : List (Mark M)) (o : Option Entry) → IsLevel site me t → site.machine.may_propose (view_at site me t).member ≡ Free → due site.setup (view_at site me t).bench.pool ≡ o → TurnLevel t (due_marks site (view_at site me t) o)
   due-level t None l e d = tt
   due-level t (Some entry) l e d =
       let p = site.proposed_of entry in
@@ -350,17 +351,17 @@ module _ {M : Type 0} (site : Site M) (me : NodeId) where
       (λ a. deed-level site me t (Echoed (site.machine.echoing (view_at site me t).member)) l ((some-is _ p e, refl), record { proposed = p; pending = e; admitted = a }) refl)
       (λ a. propose-level t _ l refl)
 
-  step-level : (t : List (Mark M)) (s : Step) → IsLevel site me t → site.machine.step (view_at site me t).member ≡ s → TurnLevel t (step_marks site (view_at site me t) s)
-  step-level t (Chosen p) l e = chosen-level t p l e
-  step-level t Moved l e =
+  step-level : ReadsProper site → (t : List (Mark M)) (s : Step) → IsLevel site me t → site.machine.step (view_at site me t).member ≡ s → TurnLevel t (step_marks site (view_at site me t) s)
+  step-level proper t (Chosen p) l e = chosen-level proper t p l e
+  step-level proper t Moved l e =
       let differ : Moved ≡ Quiet → ⊥ = (λ q. cc) in
       moving-level site me t (Advanced Moved (site.machine.advancing (view_at site me t).member)) l ((e, differ, refl), tt) refl
-  step-level t Quiet l e = echo-level t _ l refl
+  step-level proper t Quiet l e = echo-level t _ l refl
 
-  pub settled-level : (turns : ℕ) (t : List (Mark M)) → IsLevel site me t → IsLevel site me (settled site turns (view_at site me t) ++ t)
+  pub settled-level : ReadsProper site → (turns : ℕ) (t : List (Mark M)) → IsLevel site me t → IsLevel site me (settled site turns (view_at site me t) ++ t)
   unfolding settled
-  settled-level zero t l = l
-  settled-level (suc turns) t l = go (turn_marks site (view_at site me t)) (step-level t _ l refl) (λ u k. settled-level turns u k)
+  settled-level proper zero t l = l
+  settled-level proper (suc turns) t l = go (turn_marks site (view_at site me t)) (step-level proper t _ l refl) (λ u k. settled-level proper turns u k)
     where
       go : (o : Option (List (Mark M))) → TurnLevel t o → ((u : List (Mark M)) → IsLevel site me u → IsLevel site me (settled site turns (view_at site me u) ++ u)) → IsLevel site me (continued site (settled site turns) (view_at site me t) o ++ t)
       go None h later = l

@@ -8,11 +8,12 @@ use Rattle.cs_tx_types.specs.declared.checkpoint.Checkpoint.{Checkpoint}
 use Rattle.cs_tx_types.specs.declared.session.Session.{Session}
 use Rattle.cs_tx_types.specs.declared.vote.Vote.{Vote as Said}
 use Rattle.cs_tx_types.specs.declared.action.Action.{Action}
+use Rattle.cs_tx_types.specs.declared.entry.Entry.{Entry}
 use Rattle.cs_tx_types.specs.declared.action.Action.TheVariants.{Prepare}
 use Rattle.cs_wire_message.specs.declared.message.Message.{Message}
 use Rattle.cs_wire_message.specs.declared.message.Message.TheVariants as message
-use Rattle.cs_base.specs.declared.version.Version.TheVariants.{One}
 use Rattle.cs_wire_message.specs.Message.{MessageFits}
+use Rattle.cs_tx_types.specs.Entry.{EntryFits}
 use Rattle.cs_check_rules.specs.Chain.{chain_head, cut_slot}
 use Rattle.cs_order.specs.declared.proposed.Proposed.{Proposed}
 use Rattle.cs_order.specs.declared.answers.May.TheVariants.{Only}
@@ -23,7 +24,7 @@ use Rattle.cs_ledger.specs.Ledger.{Bytes}
 use Rattle.cs_ledger.specs.Table.{Vote, Commit, Effect, Voted, exec}
 use Rattle.cs_ledger.specs.ShardWorld.{is_vote}
 use Rattle.cs_node_rules.specs.declared.cause.Cause.{Cause}
-use Rattle.cs_node_state.specs.Setup.{actions_of, Setup, digest_of, is_concerned_shard, is_fit, is_session_approved, entry_of, prepares}
+use Rattle.cs_node_state.specs.Setup.{Setup, digest_of, is_concerned_shard, is_fit, is_session_approved, entry_of, prepares}
 use Rattle.cs_node_state.specs.Admission.{due}
 use Rattle.cs_node_state.specs.Bench.{is_locked, noted, decision_on}
 use Rattle.cs_node_rules.specs.Signs.{Sign, Dropped, Took, Entered, Viewed, Did, Headed, Kept, Sent}
@@ -121,7 +122,7 @@ pub record IsEchoable {M : Type 0} (site : Site M) (v : View M) : Type 0 where
 
 -- what is proposed is the due entry
 pub record IsDue {M : Type 0} (site : Site M) (v : View M) (proposed : Proposed) : Type 0 where
-  pub entry : Action
+  pub entry : Entry
   pub is : proposed ≡ site.proposed_of entry
   pub due : due site.setup v.bench.pool ≡ Some entry
 
@@ -146,7 +147,7 @@ DeedMade {M} site v t (Cut slot) = Unit {0}
 -- the actions of what was chosen, the oldest first
 abbrev pub actions_in : {M : Type 0} → Site M → List Proposed → List Action
 actions_in {M} site [] = []
-actions_in {M} site (proposed ∷ more) = actions_of (site.entry_in proposed) ++ actions_in site more
+actions_in {M} site (proposed ∷ more) = (site.entry_in proposed).actions ++ actions_in site more
 
 -- the next action of what was chosen is executed on the table: the entry of its slot has it at this place
 pub record NodeExecutes {M : Type 0} (site : Site M) (v : View M) (signs : List Sign)
@@ -154,7 +155,7 @@ pub record NodeExecutes {M : Type 0} (site : Site M) (v : View M) (signs : List 
   pub computed : effect ≡ (exec site.setup.rules v.me.shard v.bench.table (entry_of site.setup action)).effect
   pub proposed : Proposed
   pub chosen : slice_get (chosen_in v.member.deeds) slot ≡ Some proposed
-  pub within : slice_get (actions_of (site.entry_in proposed)) place ≡ Some action
+  pub within : slice_get (site.entry_in proposed).actions place ≡ Some action
   pub next : length (log_in signs) ≡ length (actions_in site (take slot (chosen_in v.member.deeds))) + place
 
 -- one of these deeds handed out a message that is written so, for this member or for all
@@ -232,15 +233,17 @@ pub record IsLevel {M : Type 0} (site : Site M) (me : NodeId) (t : List (Mark M)
   pub made : AllMade site me t
   pub executed : length (actions_in site (chosen_in (view_at site me t).member.deeds)) ≡ length (log_in (signs_of t))
 
--- the order's messages that are read are proper
-abbrev pub ReadsProper : {M : Type 0} → Site M → Type 0
-ReadsProper {M} site =
-    (said : Message) (m : M) → MessageFits One said → site.carrier.read said ≡ Some m → site.machine.proper m ≡ true
+-- the order's messages that are read are proper, and what is read of proposals are entries that have encodings
+pub record ReadsProper {M : Type 0} (site : Site M) : Type 0 where
+  pub messages : (said : Message) (m : M) → MessageFits site.setup.version said → site.carrier.read said ≡ Some m →
+      site.machine.proper m ≡ true
+  pub entries : (proposed : Proposed) → EntryFits site.setup.version (site.entry_in proposed)
 
 -- what the input says to the node is within the limits of messages
 abbrev pub InputFits : {M : Type 0} → Site M → NodeId → Input → Type 0
 InputFits {M} site me (Datagram bytes) =
-    (sender : NodeId) (said : Message) → site.net.opened me bytes ≡ Ok (sender, said) → MessageFits One said
+    (sender : NodeId) (said : Message) → site.net.opened me bytes ≡ Ok (sender, said) →
+    MessageFits site.setup.version said
 InputFits {M} site me Tick = Unit {0}
 
 -- The rules of a node add only marks that are made.
@@ -268,9 +271,11 @@ abbrev pub LivesAreQuiet : {M : Type 0} → Site M → Type 0
 LivesAreQuiet {M} site =
     (world : List (Happening M)) → IsLife site world → (i : NodeId) → IsQuiet site (view_of site world i)
 
--- After any events the order of a node keeps its entries from the slot on from which its chain keeps leaves.
+-- Where each entry has one action, as in version 1, the order of a node keeps its entries after any events from the
+-- slot on from which its chain keeps leaves.
 abbrev pub CutsAreAlike : {M : Type 0} → Site M → Type 0
 CutsAreAlike {M} site =
+    ((proposed : Proposed) → length (site.entry_in proposed).actions ≡ 1) →
     (world : List (Happening M)) → IsLife site world → (i : NodeId) →
     kept_from (view_of site world i).member.deeds ≡ cut_slot (view_of site world i).bench.log
 

@@ -35,8 +35,8 @@ pub fn events_end_quiet<O: Order>()
     ensures { (site : Site O.Message) → site.machine ≡ O.rules → LivesAreQuiet site }
 {}
 
-/// What cuts take from nodes, over any order: from the order of a node the same slots as from its
-/// chain, which is cut by its own count.
+/// What cuts take from nodes, over any order: where each entry has one action, from the order of a
+/// node the same slots as from its chain, which is cut by its own count.
 ///
 /// It does nothing: its contract is a theorem, which a caller has by calling it.
 pub fn cuts_are_alike<O: Order>()

@@ -9,9 +9,9 @@ use Rattle.cs_tx_types.specs.declared.action.Action.{Action}
 use Rattle.cs_tx_types.specs.declared.action.Action.TheVariants.{Prepare}
 use Rattle.cs_node_state.specs.Setup.{Setup, concerned}
 use Rattle.cs_tx_types.specs.Session.{session_in}
-use Rattle.cs_node_state.specs.Admission.{due_vote, decide_due, first_decided, first_waiting}
+use Rattle.cs_node_state.specs.Admission.{due_vote}
 use Rattle.cs_node_pool.specs.Deployed.{deployed_setup}
-use Rattle.cs_node_pool.specs.Calls.{IsNext}
+use Rattle.cs_node_pool.specs.Calls.{decide_due, first_decided, first_waiting, IsNext}
 use Rattle.cs_node_pool.specs.declared.seat.Seat.{Seat}
 use Rattle.cs_node_pool.specs.Seats.{Seats, with_place, seated, session_on_seat, passes, first_passing, waits, is_due, IsRight, IsRightIn, AllRight}
 use Rattle.cs_node_pool.proofs.Concerned.{concerned-session}
@@ -65,10 +65,10 @@ decided-session (e ∷ seats) = by e.1 (decided-session seats)
     by (Some seat) rest = decided-here seat (first_passing is_due seats) seat.due refl rest
 
 module _ (config : Config) (genesis : List Object) (approves : Tx → Bool) where
-  abbrev setup : Setup
+  abbrev pub setup : Setup
   setup = deployed_setup config genesis approves
 
-  same-vote : (seat : Seat) → IsRight config seat → due_vote setup.f (concerned setup seat.pooled.session) seat.pooled ≡ seat.due
+  pub same-vote : (seat : Seat) → IsRight config seat → due_vote setup.f (concerned setup seat.pooled.session) seat.pooled ≡ seat.due
   same-vote seat right =
       ap (λ shards. due_vote config.f shards seat.pooled) (concerned-session config genesis approves seat.pooled.session ∙ sym right.shards) ∙ sym right.due
 

@@ -5,5 +5,6 @@ pub mod Closing
 pub mod Right
 pub mod Locking
 pub mod Dues
+pub mod Gathering
 pub mod Keeping
 pub mod Counting

@@ -59,11 +59,11 @@ picked-more test chosen next seats n place got was b is marked =
 
 -- ---- the places in their order
 
-abbrev picked : (Seat → Bool) → Seats → List ℕ
+abbrev pub picked : (Seat → Bool) → Seats → List ℕ
 picked test [] = []
 picked test (e ∷ seats) = cond (passes test e.1) (0 ∷ map (λ n. suc n) (picked test seats)) (map (λ n. suc n) (picked test seats))
 
-abbrev next : List ℕ → List ℕ
+abbrev pub next : List ℕ → List ℕ
 next ns = map (λ n. suc n) ns
 
 any-zero : (ns : List ℕ) → list_any (is_at (nat_cmp 0)) (next ns) ≡ false
@@ -122,7 +122,7 @@ module _ (test : Seat → Bool) where
       let rest : IsStrictlySortedBy nat_cmp (next (picked test seats)) = rising-next (picked test seats) (picked-rising seats) in
       elim (passes test e.1) as (λ b. IsStrictlySortedBy nat_cmp (cond b (0 ∷ next (picked test seats)) (next (picked test seats)))) [ true ↦ (above-zero (picked test seats), rest) | false ↦ rest ]
 
-  picked-is : (chosen : BTreeSet ℕ) (seats : Seats) → IsPicked test chosen seats → chosen.keys ≡ picked test seats
+  pub picked-is : (chosen : BTreeSet ℕ) (seats : Seats) → IsPicked test chosen seats → chosen.keys ≡ picked test seats
   picked-is chosen seats was =
       let made : BTreeSet ℕ = record { keys = picked test seats } in
       btree_set_from_contains nat_cmp_total chosen made was.rising (picked-rising seats) (λ q. was.has q ∙ sym (picked-has seats q)) exact_unsigned

@@ -4,3 +4,4 @@ pub mod Calls
 pub mod Votes
 pub mod Seats
 pub mod Gathered
+pub mod Batches

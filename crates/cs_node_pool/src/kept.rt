@@ -4,24 +4,27 @@ ghost use Rattle.std.specs.Map.{lookup};
 ghost use Rattle.std.specs.Ordering.{nat_cmp};
 ghost use Rattle.std.specs.BTreeSet.{IsOrdered};
 ghost use Rattle.cs_base.specs.declared.config.Config.{Config};
+ghost use Rattle.cs_base.specs.Version.{version_of};
 ghost use Rattle.cs_tx.specs.Uses.{concerned_shards};
 ghost use Rattle.cs_tx.specs.Digest.{digest_of_session};
 ghost use Rattle.cs_tx.specs.WellFormed.{IsWellFormed};
 ghost use Rattle.cs_tx_types.specs.Session.{SessionFits};
 ghost use Rattle.cs_node_state.specs.Pool.{found, without_session, pool_changed, as_locked, with_ballot, waiting_count};
-ghost use Rattle.cs_node_state.specs.Admission.{first_decided, first_waiting, due};
+ghost use Rattle.cs_node_state.specs.Admission.{due};
 ghost use Rattle.cs_node_pool.specs.Deployed.{AtEverySetup};
 ghost use Rattle.cs_node_pool.specs.Fits.{PoolFits, SessionsFit, DueFits};
+ghost use Rattle.cs_node_pool.specs.Batches.{actions_at, filled};
 ghost use Rattle.cs_node_pool.specs.declared.seat.Seat.{Seat};
 ghost use Rattle.cs_node_pool.specs.Calls.{counted_in, locked_in, session_under, IsNext};
 ghost use Rattle.cs_node_pool.specs.Seats.{Placed, SoundSeats, AllRight, IsKnownSession, IsPicked, IsMarked, waits, is_due, seat_of_place, first_passing, without_gaps, pool_in};
 
 use crate::answers::Counted;
+use crate::batch::Batch;
 use crate::same::same_session;
-use crate::seat::{Seat, is_due, known_as, lock, take_vote, waits};
-use cs_base::{Config, Memory};
+use crate::seat::{Seat, action_on, is_due, known_as, lock, take_vote, waits};
+use cs_base::{Config, Memory, Version};
 use cs_node_state::{Ballot, Pooled};
-use cs_tx::{Action, Digest, Encoded, Session};
+use cs_tx::{Digest, Encoded, Entry, Session};
 use indexmap::IndexMap;
 use std::alloc::Global;
 use std::collections::BTreeSet;
@@ -335,47 +338,43 @@ impl Kept {
         Ok(sessions)
     }
 
-    fn decide_due(&self, alloc: Global) -> Result<Option<Action>, Memory>
-        requires placed { Placed self.now }
-        ensures entry { (config : Config) → AllRight config self.now.seats.entries →
-            AtEverySetup config (λ setup.
-            IfOk result (λ entry. entry ≡ first_decided setup (pool_in self.now))) }
-        ensures fits { (config : Config) → AllRight config self.now.seats.entries →
-            IfOk result DueFits }
+    /// Takes what is due on the sessions at these places into an entry, one after the other, until
+    /// it has no room for one, and answers whether it had room for all.
+    fn gather(
+        &self,
+        alloc: Global,
+        places: &BTreeSet<usize>,
+        batch: &mut Batch,
+    ) -> Result<bool, Memory>
+        ensures answer { let actions = actions_at self.now.seats.entries places.now.keys in
+            IfOk result (λ all. all ≡ (filled batch.old actions).1) }
+        ensures batch { let actions = actions_at self.now.seats.entries places.now.keys in
+            OnOk result (batch.new ≡ (filled batch.old actions).0) }
     {
-        let Some(seat) = self.first_at(&self.ready) else {
-            return Ok(None);
-        };
-        let Some(vote) = seat.due else {
-            return Ok(None);
-        };
-        let session = seat.pooled.session.copy(alloc)?;
-        Ok(Some(Action::Decide(vote, session)))
+        for index in places {
+            if let Some(seat) = self.seat_at(*index) {
+                let action = action_on(alloc, seat)?;
+                if !batch.take(action)? {
+                    return Ok(false);
+                }
+            }
+        }
+        Ok(true)
     }
 
-    fn prepare_due(&self, alloc: Global) -> Result<Option<Action>, Memory>
-        requires { Placed self.now }
-        ensures entry { IfOk result (λ entry. entry ≡ first_waiting (pool_in self.now)) }
-        ensures fits { PoolFits (pool_in self.now) → IfOk result DueFits }
-    {
-        let Some(seat) = self.first_at(&self.waiting) else {
-            return Ok(None);
-        };
-        let session = seat.pooled.session.copy(alloc)?;
-        Ok(Some(Action::Prepare(session)))
-    }
-
-    /// The entry that is due: the first decision of a locked session, in the order of the pool,
-    /// or else a vote on the first session that waits.
-    pub fn due(&self, alloc: Global, config: &Config) -> Result<Option<Action>, Memory>
+    /// The entry that is due: the decisions on locked sessions, in the order of the pool, and then
+    /// votes on those that wait, as many of these as it has room for. No other session is looked at.
+    pub fn due(&self, alloc: Global, config: &Config) -> Result<Option<Entry>, Memory>
         requires { SoundSeats config.now self.now }
         ensures entry { AtEverySetup config.now (λ setup.
             IfOk result (λ entry. entry ≡ due setup (pool_in self.now))) }
-        ensures fits { IfOk result DueFits }
+        ensures fits { IfOk result (DueFits (version_of config.now.version)) }
     {
-        match self.decide_due(alloc)? {
-            Some(entry) => Ok(Some(entry)),
-            None => self.prepare_due(alloc),
+        let mut batch = Batch::new(alloc, Version::of(config.version));
+        if !self.gather(alloc, &self.ready, &mut batch)? {
+            return Ok(batch.entry());
         }
+        self.gather(alloc, &self.waiting, &mut batch)?;
+        Ok(batch.entry())
     }
 }

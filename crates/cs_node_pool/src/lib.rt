@@ -2,6 +2,7 @@
 #![tactic(auto)]
 
 mod answers;
+mod batch;
 mod kept;
 mod pool;
 mod same;

@@ -1,5 +1,6 @@
 //! The pool: sessions under their digests, in the order of entering.
 ghost use Rattle.std.specs.Prelude.{◌≡◌, ◌↔◌, ◌++◌, ◌∷◌, [], true, IsTrue, IsSome, OnOk, IfOk, IfSome, None, Some, option_copied};
+ghost use Rattle.cs_base.specs.Version.{version_of};
 ghost use Rattle.cs_tx.specs.Uses.{concerned_shards};
 ghost use Rattle.cs_tx.specs.Digest.{digest_of_session};
 ghost use Rattle.cs_tx.specs.WellFormed.{IsWellFormed};
@@ -15,7 +16,7 @@ use crate::answers::Counted;
 use crate::kept::Kept;
 use cs_base::{Config, Memory, Whole};
 use cs_node_state::{Ballot, Pooled};
-use cs_tx::{Action, Digest, Session};
+use cs_tx::{Digest, Entry, Session};
 use std::alloc::Global;
 use std::marker::Model;
 
@@ -178,12 +179,12 @@ impl Pool {
         self.kept.locked(alloc)
     }
 
-    /// The entry that is due: the first decision of a locked session, in the order of the pool,
-    /// or else a vote on the first session that waits.
-    pub fn due(&self, alloc: Global) -> Result<Option<Action>, Memory>
+    /// The entry that is due: the decisions on locked sessions, in the order of the pool, and then
+    /// votes on those that wait, as many of these as an entry has room for: in version 1 the first.
+    pub fn due(&self, alloc: Global) -> Result<Option<Entry>, Memory>
         ensures entry { AtEverySetup self.now.config (λ setup.
             IfOk result (λ entry. entry ≡ due setup self.now.sessions)) }
-        ensures fits { IfOk result DueFits }
+        ensures fits { IfOk result (DueFits (version_of self.now.config.version)) }
     {
         self.whole.check()?;
         self.kept.due(alloc, &self.config)

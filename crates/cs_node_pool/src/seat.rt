@@ -6,6 +6,7 @@ ghost use Rattle.cs_tx.specs.Digest.{digest_of_session};
 ghost use Rattle.cs_tx.specs.WellFormed.{IsWellFormed};
 ghost use Rattle.cs_tx_types.specs.Session.{SessionFits};
 ghost use Rattle.cs_node_state.specs.Pool.{as_locked, with_ballot};
+ghost use Rattle.cs_node_pool.specs.Batches.{action_on};
 ghost use Rattle.cs_node_pool.specs.Calls.{counted_in};
 ghost use Rattle.cs_node_pool.specs.Seats.{IsKnownSession, IsRight, IsRightIn, pooled_in, session_on_seat, passes, waits, is_due, reseated};
 
@@ -14,7 +15,8 @@ use crate::same::same_session;
 use crate::votes::{has_voted, vote_due};
 use cs_base::{Config, Memory};
 use cs_node_state::{Ballot, Pooled};
-use cs_tx::{Digest, Session, Vote};
+use cs_tx::{Action, Digest, Encoded, Session, Vote};
+use std::alloc::Global;
 
 /// A well-formed session of the pool, its digest and the shards that it concerns, which take
 /// hashing to find, and the decision that is due on it.
@@ -110,5 +112,16 @@ pub fn is_due(place: &Option<Seat>) -> bool
     match place {
         Some(seat) => seat.due.is_some(),
         None => false,
+    }
+}
+
+/// What is due on the session of a seat: the decision on it, or else a vote.
+pub fn action_on(alloc: Global, seat: &Seat) -> Result<Action, Memory>
+    ensures { IfOk result (λ action. action ≡ action_on seat.now) }
+{
+    let session = seat.pooled.session.copy(alloc)?;
+    match seat.due {
+        Some(vote) => Ok(Action::Decide(vote, session)),
+        None => Ok(Action::Prepare(session)),
     }
 }

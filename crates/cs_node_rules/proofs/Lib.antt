@@ -1,3 +1,4 @@
 pub mod Starting
 pub mod Heard
-pub mod Actions
+pub mod Void
+pub mod Entries

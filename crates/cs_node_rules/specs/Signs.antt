@@ -9,6 +9,7 @@ use Rattle.cs_tx_types.specs.declared.session.Session.{Session}
 use Rattle.cs_tx_types.specs.declared.vote.Vote.{Vote}
 use Rattle.cs_tx_types.specs.declared.vote.Vote.TheVariants.{Commit}
 use Rattle.cs_tx_types.specs.declared.action.Action.{Action}
+use Rattle.cs_tx_types.specs.declared.entry.Entry.{Entry}
 use Rattle.cs_tx_types.specs.declared.checkpoint.Checkpoint.{Checkpoint}
 use Rattle.cs_tx_types.specs.declared.proof.Proof.{Proof}
 use Rattle.cs_check_rules.specs.Chain.{head_of, made_last}
@@ -19,12 +20,12 @@ use Rattle.cs_ledger.specs.Table.{Effect}
 use Rattle.cs_node_rules.specs.declared.cause.Cause.{Cause}
 use Rattle.cs_node_rules.specs.declared.cause.Cause.TheVariants.{Mine, Role, Malformed, Repeat, Unasked, Denied, Full, NoProof}
 use Rattle.cs_node_state.specs.declared.pooled.Pooled.{Pooled}
-use Rattle.cs_node_state.specs.Setup.{actions_of, Setup, digest_of, is_concerned_shard, concerned, is_fit, is_session_approved}
+use Rattle.cs_node_state.specs.Setup.{Setup, digest_of, is_concerned_shard, concerned, is_fit, is_session_approved}
 use Rattle.cs_tx_types.specs.Session.{session_in}
 use Rattle.cs_node_state.specs.Evidence.{has_voted}
 use Rattle.cs_node_rules.specs.Members.{is_other_member, others}
 use Rattle.cs_node_state.specs.Pool.{Pool, found, is_pooled, pool_changed, with_ballot, entered, pool_has_room}
-use Rattle.cs_node_state.specs.Bench.{Bench, Ran, executed, slot_executed, decision_on, noted, vote_told}
+use Rattle.cs_node_state.specs.Bench.{Bench, Ran, executed, action_executed, decision_on, noted, vote_told}
 use Rattle.cs_check_rules.specs.Proofs.{proof_of}
 use Rattle.cs_check_rules.specs.Heads.{is_news, with_head}
 use Rattle.cs_node_state.specs.Asked.{told_at, key_asked}
@@ -46,7 +47,7 @@ bench_step setup shard (Took sender vote x) b =
     record b { pool = pool_changed (digest_of setup x) (with_ballot (record { sender = sender; vote = vote })) b.pool }
 bench_step setup shard (Entered x) b = record b { pool = entered (digest_of setup x) x b.pool }
 bench_step setup shard (Viewed slot view) b = b
-bench_step setup shard (Did slot place action effect) b = slot_executed setup shard b action
+bench_step setup shard (Did slot place action effect) b = action_executed setup shard b action
 bench_step setup shard (Headed number head) b = b
 bench_step setup shard (Kept index checkpoint) b = record b { heads = with_head index checkpoint b.heads }
 bench_step setup shard (Sent to message) b = b
@@ -156,9 +157,9 @@ actions_signs setup me b slot place (action ∷ more) =
     actions_signs setup me (bench_after setup me.shard signs b) slot (suc place) more ++ signs
 
 -- the entry of a slot is executed, and after every 16th slot a checkpoint is made
-abbrev pub execution_signs : Setup → NodeId → Bench → ℕ → Action → List Sign
+abbrev pub execution_signs : Setup → NodeId → Bench → ℕ → Entry → List Sign
 execution_signs setup me b slot entry =
-    let signs = actions_signs setup me b slot 0 (actions_of entry) in
+    let signs = actions_signs setup me b slot 0 entry.actions in
     headed_signs setup me (made_last (bench_after setup me.shard signs b).log) ++ signs
 
 -- ---- checkpoints

@@ -1,7 +1,8 @@
 -- Marks, nodes, and the site on which the rules of all nodes rest.
 use Rattle.std.specs.Prelude.{List, [], ◌∷◌, Option}
 use Rattle.cs_base.specs.declared.node_id.NodeId.{NodeId}
-use Rattle.cs_tx_types.specs.declared.action.Action.{Action}
+use Rattle.cs_base.specs.declared.version.Version.{Version}
+use Rattle.cs_tx_types.specs.declared.entry.Entry.{Entry}
 use Rattle.cs_wire_message.specs.declared.message.Message.{Message}
 use Rattle.cs_order.specs.declared.proposed.Proposed.{Proposed}
 use Rattle.cs_order.specs.Deeds.{Deed, Member, Machine, did}
@@ -27,14 +28,18 @@ pub record Carrier (M : Type 0) : Type 0 where
   pub written : M → Message
   pub read : Message → Option M  -- of a message that is none of the order's, none
 
+-- so in each version
+abbrev pub Carriers : Type 0 → Type 0
+Carriers M = Version → Carrier M
+
 -- what is the same at all nodes
 pub record Site (M : Type 0) : Type 0 where
   pub setup : Setup
   pub net : Net
   pub machine : Machine M
   pub carrier : Carrier M
-  pub proposed_of : Action → Proposed
-  pub entry_in : Proposed → Action  -- of bytes that are no entry a fixed one, which is Void
+  pub proposed_of : Entry → Proposed
+  pub entry_in : Proposed → Entry  -- of bytes that are no entry a fixed one, which is Void
 
 -- a node: what its marks come to
 pub record View (M : Type 0) : Type 0 where

@@ -2,7 +2,7 @@
 use Rattle.std.specs.Prelude.{ℕ, zero, suc, ◌+◌, ◌-◌, ◌%◌, ◌^◌, ◌==◌, nat_lt, Bool, if◌then◌else◌, List, [], ◌∷◌, ◌++◌, length, Option, Some, None, is_some, Ok, Err}
 use Rattle.cs_base.specs.declared.node_id.NodeId.{NodeId}
 use Rattle.cs_tx_types.specs.declared.limits.TheConstants.{COVERED}
-use Rattle.cs_tx_types.specs.declared.action.Action.{Action}
+use Rattle.cs_tx_types.specs.declared.entry.Entry.{Entry}
 use Rattle.cs_wire_message.specs.declared.message.Message.{Message}
 use Rattle.cs_wire_message.specs.declared.message.Message.TheVariants as message
 use Rattle.cs_wire_message.specs.Classes.{Class, OfOrder, class_of}
@@ -59,7 +59,7 @@ admits_proposed {M} site v proposed = admits site.setup v.me.shard v.bench.pool 
 abbrev pub proposing : {M : Type 0} → Site M → View M → Proposed → List (Mark M)
 proposing {M} site v proposed = with_deed site v (Proposing proposed (site.machine.proposing v.member proposed))
 
-abbrev pub due_marks : {M : Type 0} → Site M → View M → Option Action → Option (List (Mark M))
+abbrev pub due_marks : {M : Type 0} → Site M → View M → Option Entry → Option (List (Mark M))
 due_marks {M} site v None = None
 due_marks {M} site v (Some entry) = Some (proposing site v (site.proposed_of entry))
 

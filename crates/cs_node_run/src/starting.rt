@@ -22,8 +22,8 @@ use cs_tx::{Judge, Object};
 use cs_wire::Keys;
 use std::alloc::Global;
 
-/// The node that holds the keys, which are of version 1, before its first input, in whatever net they
-/// speak.
+/// The node that holds the keys, which are of version 1 as the configuration is, before its first
+/// input, in whatever net they speak.
 pub fn start<J: Judge + Drop>(
     alloc: Global,
     config: Config,
@@ -32,6 +32,7 @@ pub fn start<J: Judge + Drop>(
     genesis: &[(Key, Object)],
 ) -> Result<Core<SlotOrder, J>, Memory>
     requires first { keys.version ≡ One }
+    requires version { config.version ≡ 1 }
     requires node { is_node config keys.me ≡ true }
     requires genesis { (objects : List AnyObject) × IsGenesis objects genesis.now }
     ensures { (objects : List AnyObject) → genesis.now ≡ keyed_from 0 objects →

@@ -1,5 +1,5 @@
 -- What a client is told of a key, or of a dummy that it may use.
-use Rattle.std.specs.Prelude.{ℕ, zero, suc, ◌+◌, ◌^◌, Bool, true, false, Option, Some, None, if◌then◌else◌}
+use Rattle.std.specs.Prelude.{ℕ, zero, suc, ◌+◌, ◌^◌, Option, Some, None, if◌then◌else◌}
 use Rattle.cs_base.specs.Fields.{whole_at}
 use Rattle.cs_base.specs.declared.key.Key.{Key}
 use Rattle.cs_base.specs.declared.key.Key.TheVariants as key
@@ -9,7 +9,6 @@ use Rattle.cs_tx_types.specs.declared.state.State.{State}
 use Rattle.cs_tx_types.specs.declared.state.State.TheVariants as state
 use Rattle.cs_tx.specs.Sessions.{key_seen}
 use Rattle.cs_ledger.specs.Ledger.{Bytes}
-use Rattle.cs_ledger.specs.Session as Seen
 use Rattle.cs_ledger.specs.Table as Shard
 use Rattle.cs_tx.specs.Dummies.{dummy_object}
 use Rattle.cs_ledger.specs.Table.{has_active_dummy}

@@ -1,5 +1,5 @@
--- What a node works on: its table, its pool, and what it keeps for checkpoints; and what the execution of an entry makes
--- of these.
+-- What a node works on: its table, its pool, and what it keeps for checkpoints; and what the execution of an action
+-- makes of these.
 use Rattle.std.specs.Prelude.{ℕ, Bool, true, false, if◌then◌else◌, List, [], length, Option, Some, None}
 use Rattle.cs_base.specs.declared.node_id.NodeId.{NodeId}
 use Rattle.cs_tx_types.specs.declared.session.Session.{Session}
@@ -96,9 +96,9 @@ ran_of setup shard b keys x outcome = record {
 }
 
 abbrev pub executed : Setup → ℕ → Bench → Action → Ran
-executed setup shard b entry =
-    ran_of setup shard b (keys_after setup.rules shard b.table (entry_of setup entry) b.keys) (session_in entry)
-    (exec setup.rules shard b.table (entry_of setup entry))
+executed setup shard b action =
+    ran_of setup shard b (keys_after setup.rules shard b.table (entry_of setup action) b.keys) (session_in action)
+    (exec setup.rules shard b.table (entry_of setup action))
 
 -- ---- the log
 
@@ -109,20 +109,20 @@ effect_from Aborted = result.Aborted
 effect_from Skipped = result.Skipped
 effect_from Void = result.Void
 
--- what was executed in the next slot, and what that came to
+-- What was executed next, and what that came to. The log is that of version 1: a slot of it has one action.
 abbrev pub next_leaf : Bench → Action → Effect → Leaf
-next_leaf b entry effect =
-    record { slot = length b.log.leaves; place = 0; action = entry; result = effect_from effect }
+next_leaf b action effect =
+    record { slot = length b.log.leaves; place = 0; action = action; result = effect_from effect }
 
 -- it stands in the log
 abbrev pub with_leaf : Leaf → Bench → Bench
 with_leaf leaf b = record b { log = with_slot (leaf_encoding One leaf) (root_under b.keys b.table) b.log }
 
--- what is kept after the entry of a slot was executed
-abbrev pub slot_executed : Setup → ℕ → Bench → Action → Bench
-slot_executed setup shard b entry =
-    let ran = executed setup shard b entry in
-    with_leaf (next_leaf b entry ran.effect) ran.bench
+-- what is kept after an action was executed
+abbrev pub action_executed : Setup → ℕ → Bench → Action → Bench
+action_executed setup shard b action =
+    let ran = executed setup shard b action in
+    with_leaf (next_leaf b action ran.effect) ran.bench
 
 -- ---- votes
 
@@ -147,9 +147,9 @@ own_pool me d (Some told) pool =
 
 -- what an execution leaves, with the node's own vote
 abbrev pub bench_executed : Setup → NodeId → Bench → Action → Bench
-bench_executed setup me b entry =
-    let ran = executed setup me.shard b entry in
+bench_executed setup me b action =
+    let ran = executed setup me.shard b action in
     record ran.bench {
       pool = own_pool me
-          (digest_of setup (session_in entry)) (vote_told setup me.shard (session_in entry) ran) ran.bench.pool;
+          (digest_of setup (session_in action)) (vote_told setup me.shard (session_in action) ran) ran.bench.pool;
     }

@@ -1,6 +1,7 @@
 -- The setup of a deployment: what its configuration, its genesis and a reading of sessions fix for all nodes.
 use Rattle.std.specs.Prelude.{ℕ, ◌+◌, List, [], ◌∷◌}
 use Rattle.cs_base.specs.Key.{shard_of_key}
+use Rattle.cs_base.specs.Version.{version_of}
 use Rattle.cs_base.specs.declared.config.Config.{Config}
 use Rattle.cs_base.specs.declared.key.Key.TheVariants as key
 use Rattle.cs_tx_value.specs.declared.object.Object.{Object}
@@ -28,6 +29,7 @@ rules_of config genesis = record {
 
 abbrev pub setup_of : Config → List Object → (Session → Seen.Session) → Setup
 setup_of config genesis session_of = record {
+  version = version_of config.version;
   shards = config.shards;
   f = config.f;
   rules = rules_of config genesis;

@@ -1,5 +1,6 @@
--- What is the same at all nodes of a deployment, and what the ledger sees of a session and of an entry.
+-- What is the same at all nodes of a deployment, and what the ledger sees of a session and of an action.
 use Rattle.std.specs.Prelude.{ℕ, zero, suc, Bool, ◌&&◌, if◌then◌else◌, List, [], ◌∷◌, ◌++◌, false, bytes_eq}
+use Rattle.cs_base.specs.declared.version.Version.{Version}
 use Rattle.cs_tx_types.specs.declared.session.Session.{Session}
 use Rattle.cs_tx_types.specs.declared.vote.Vote.{Vote}
 use Rattle.cs_tx_types.specs.declared.vote.Vote.TheVariants.{Commit, Abort}
@@ -10,12 +11,8 @@ use Rattle.cs_ledger.specs.Session as Seen
 use Rattle.cs_ledger.specs.Table as Shard
 use Rattle.cs_tx.specs.Votes.{vote_of}
 
--- In version 1 the members of a shard agree on an action, which is written as the entry of it alone. What is executed of
--- it is a list, one action after the other.
-unfoldable pub actions_of : Action → List Action
-actions_of entry = entry ∷ []
-
 pub record Setup : Type 0 where
+  pub version : Version  -- how entries are made and written
   pub shards : ℕ
   pub f : ℕ  -- a shard has 3f + 1 nodes, of which f may lie
   pub rules : Seen.Rules
@@ -24,7 +21,7 @@ pub record Setup : Type 0 where
 abbrev pub digest_of : Setup → Session → Bytes
 digest_of setup x = (setup.session_of x).digest
 
--- the entry is a Prepare of the session of this digest
+-- the action is a Prepare of the session of this digest
 abbrev pub prepares : Setup → Bytes → Action → Bool
 prepares setup d (Prepare x) = bytes_eq d (digest_of setup x)
 prepares setup d (Decide vote x) = false

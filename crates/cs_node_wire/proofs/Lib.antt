@@ -1,2 +1,1 @@
-pub mod Void
 pub mod Whole

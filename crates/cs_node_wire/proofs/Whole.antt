@@ -1,5 +1,8 @@
 -- What a decoding of all of the bytes says of what stands there.
-use Rattle.std.proofs.Common.{◌≡◌, ℕ, List, Option, Some, None, refl, sym, ap, ◌∙◌}
+use Rattle.std.proofs.Common.{◌≡◌, ℕ, List, Option, Some, None, refl, sym, ap, ◌∙◌, arith}
+use Rattle.cs_base.specs.declared.version.Version.{Version}
+use Rattle.cs_base.specs.declared.version.Version.TheVariants.{One, Two}
+use Rattle.cs_base.specs.Version.{IsVersion, number_of, version_of}
 use Rattle.cs_base.specs.Fields.{IsBytes, Found, IsForm, whole_at}
 use Rattle.cs_base.proofs.Forms.{whole-takes, whole-again}
 use Rattle.cs_tx_value.specs.declared.form.FormError.{FormError}
@@ -17,3 +20,15 @@ module _ {X : Type 0} (write : X → List ℕ) (Fits : X → Type 0) (read : Lis
       by_found : (found : Option X) → whole_at read bytes ≡ found → None ≡ found
       by_found None is = refl
       by_found (Some v) is = let h = whole-takes write Fits read form bytes v fits is in absurd (other (only v h.0 h.1))
+
+-- a version is that of its number
+pub numbered : (version : Version) (number : ℕ) → number ≡ number_of version → version_of number ≡ version
+numbered version number is = ap version_of is ∙ again version
+  where
+    again : (v : Version) → version_of (number_of v) ≡ v
+    again One = refl
+    again Two = refl
+
+pub is_numbered : (version : Version) (number : ℕ) → number ≡ number_of version → IsVersion number
+is_numbered One number is = (omega (arith, is), omega (arith, is))
+is_numbered Two number is = (omega (arith, is), omega (arith, is))

@@ -1,4 +1,3 @@
-pub mod Proposals
 pub mod SoloCarried
 pub mod SlotCarried
 pub mod laws

@@ -2,15 +2,15 @@
 use Rattle.std.proofs.Common.{◌≡◌, true, false, Some, None, arith}
 use Rattle.cs_wire_message.specs.declared.message.Message.TheVariants as message
 use Rattle.cs_order.specs.Solo.{solo}
-use Rattle.cs_node_rules.specs.Site.{Carrier}
-use Rattle.cs_node_rules.specs.Carrying.{Carries}
+use Rattle.cs_node_rules.specs.Site.{Carriers}
+use Rattle.cs_node_rules.specs.Carrying.{AllCarry}
 
 -- any message within the limits would do
-abbrev pub solo_carrier : {M : Type 0} → Carrier M
-solo_carrier {M} = record { written = λ m. message.Want 0; read = λ said. None }
+abbrev pub solo_carrier : {M : Type 0} → Carriers M
+solo_carrier {M} version = record { written = λ m. message.Want 0; read = λ said. None }
 
-pub solo_carries : {M : Type 0} → Carries {M = M} solo solo_carrier
-solo_carries {M} = record {
+pub solo_carries : {M : Type 0} → AllCarry {M = M} solo solo_carrier
+solo_carries {M} version = record {
   fits = λ m. omega arith;
   ours = λ m is entries. let q : false ≡ true = is in cc;
   back = λ m is entries. let q : false ≡ true = is in cc;

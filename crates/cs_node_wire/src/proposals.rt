@@ -1,38 +1,40 @@
-//! What an order carries: in version 1 an action, as the entry of it alone is written.
+//! What an order carries: entries, as they are written in a version.
 ghost use Rattle.std.specs.Prelude.{◌≡◌, IfOk, IfSome};
 ghost use Rattle.cs_base.specs.Fields.{IsBytes, whole_at};
 ghost use Rattle.cs_tx_types.specs.declared.action.Action.TheVariants.{Prepare};
-ghost use Rattle.cs_tx_types.specs.Session.{ActionFits};
-ghost use Rattle.cs_node_rules.specs.Deployment.{proposed_of, bare_trace, no_session};
-ghost use Rattle.cs_node_wire.specs.Proposals.{entry_read, entry_spelled};
+ghost use Rattle.cs_tx_types.specs.Entry.{EntryFits, entry_at, entry_alone};
+ghost use Rattle.cs_node_rules.specs.Deployment.{proposed_of, bare_trace, no_session, entry_read};
 
-use cs_base::{Memory, Sequence};
+use cs_base::{Memory, Sequence, Version};
 use cs_hash::tagged;
 use cs_order::Proposed;
-use cs_tx::{Action, Encoded, FormError, Name, Session, Trace, Tx};
+use cs_tx::{Action, Entry, FormError, Name, Session, Trace, Tx, Versioned};
 use std::alloc::Global;
 
-/// The value that all of the bytes encode, if they encode one.
-fn whole<T: Encoded>(alloc: Global, bytes: &[u8]) -> Result<Option<T>, Memory>
-    ensures found { IfOk result (λ found. found ≡ whole_at T.found_at bytes.now) }
-    ensures fits { IfOk result (λ found. IfSome found T.Fits) }
+/// The entry that all of the bytes encode, if they encode one.
+fn whole(alloc: Global, bytes: &[u8], version: Version) -> Result<Option<Entry>, Memory>
+    ensures found { IfOk result (λ found. found ≡ whole_at (entry_at version) bytes.now) }
+    ensures fits { IfOk result (λ found. IfSome found (EntryFits version)) }
     ensures bytes { IsBytes bytes.now }
 {
-    match T::decode(alloc, bytes) {
-        Ok(value) => Ok(Some(value)),
+    match Entry::decode(alloc, bytes, version.number()) {
+        Ok(entry) => Ok(Some(entry)),
         Err(FormError::Memory) => Err(Memory),
         Err(FormError::TooLong) => Ok(None),
         Err(FormError::BadForm) => Ok(None),
     }
 }
 
-/// The action that was proposed.
-pub fn read_entry(alloc: Global, proposed: &Proposed) -> Result<Option<Action>, Memory>
-    ensures found { IfOk result (λ found. found ≡ entry_read proposed.now) }
-    ensures spelled { IfOk result (λ found. found ≡ entry_spelled proposed.now) }
-    ensures fits { IfOk result (λ found. IfSome found ActionFits) }
+/// The entry that was proposed.
+pub fn read_entry(
+    alloc: Global,
+    proposed: &Proposed,
+    version: Version,
+) -> Result<Option<Entry>, Memory>
+    ensures found { IfOk result (λ found. found ≡ entry_read version proposed.now) }
+    ensures fits { IfOk result (λ found. IfSome found (EntryFits version)) }
 {
-    whole(alloc, proposed.bytes.as_slice())
+    whole(alloc, proposed.bytes.as_slice(), version)
 }
 
 // A trace that uses and makes nothing.
@@ -51,27 +53,34 @@ fn bare_trace(alloc: Global) -> Result<Trace, Memory>
     })
 }
 
-/// The action that stands for bytes that are no entry.
-pub fn void_entry(alloc: Global) -> Result<Action, Memory>
-    ensures entry { IfOk result (λ entry. entry ≡ Prepare no_session) }
-    ensures fits { IfOk result ActionFits }
+// A session without an input.
+fn no_session(alloc: Global) -> Result<Session, Memory>
+    ensures { IfOk result (λ session. session ≡ no_session) }
 {
     let mut traces = Sequence::new(alloc);
     traces.push(bare_trace(alloc)?)?;
-    Ok(Action::Prepare(Session {
+    Ok(Session {
         tx: Tx { traces },
         number: 0,
         dummies: Sequence::new(alloc),
-    }))
+    })
 }
 
-/// An action with the digest of the entry of it alone, to be proposed. Both have one encoding, which
-/// is made once and hashed.
-pub fn propose_entry(alloc: Global, action: &Action) -> Result<Proposed, Memory>
-    requires { ActionFits action.now }
-    ensures { IfOk result (λ proposed. proposed ≡ proposed_of action.now) }
+/// The entry that stands for bytes that are none: a vote on a session that isn't well formed.
+pub fn void_entry(alloc: Global) -> Result<Entry, Memory>
+    ensures { IfOk result (λ entry. entry ≡ entry_alone (Prepare no_session)) }
 {
-    let bytes = action.to_bytes(alloc)?;
+    let mut actions = Sequence::new(alloc);
+    actions.push(Action::Prepare(no_session(alloc)?))?;
+    Ok(Entry { actions })
+}
+
+/// An entry with its digest, to be proposed. Its encoding is made once and hashed.
+pub fn propose_entry(alloc: Global, entry: &Entry, version: Version) -> Result<Proposed, Memory>
+    requires { EntryFits version entry.now }
+    ensures { IfOk result (λ proposed. proposed ≡ proposed_of version entry.now) }
+{
+    let bytes = entry.to_bytes(alloc, version)?;
     Ok(Proposed {
         digest: tagged(b'E', &bytes),
         bytes: Sequence::from_vec(bytes),

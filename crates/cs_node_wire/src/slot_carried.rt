@@ -1,7 +1,6 @@
 //! The order among 3f+1 members, whose messages are carried by those of their kinds.
-ghost use Rattle.std.specs.Prelude.{◌≡◌, ◌∷◌, [], None, IfOk, IfSome};
-ghost use Rattle.cs_tx_types.specs.Entry.{entry_alone};
-ghost use Rattle.cs_node_wire.specs.SlotCarried.{alone, slot_carrier, change_written, change_read, kind_written, blank};
+ghost use Rattle.std.specs.Prelude.{◌≡◌, IfOk};
+ghost use Rattle.cs_node_wire.specs.SlotCarried.{slot_carrier, change_written, change_read, kind_written, blank};
 ghost use Rattle.cs_node_wire.specs.laws.SlotCarried.{slot_carries};
 
 use crate::carried::Carried;
@@ -9,7 +8,6 @@ use crate::proposals::{propose_entry, read_entry};
 use cs_base::{Memory, Sequence, Version};
 use cs_log::SlotOrder;
 use cs_order_rules::{Change as OrderChange, OrderMessage};
-use cs_tx::{Action, Entry};
 use cs_wire_message::{Change, Message};
 use std::alloc::Global;
 
@@ -37,37 +35,16 @@ fn read_change(change: Change) -> OrderChange
     OrderChange { prepared, echoed }
 }
 
-// The entry of one action.
-fn entry_of(alloc: Global, action: Action) -> Result<Entry, Memory>
-    ensures { IfOk result (λ entry. entry ≡ entry_alone action) }
-{
-    let mut actions = Sequence::new(alloc);
-    actions.push(action)?;
-    Ok(Entry { actions })
-}
-
-// The action of an entry of one.
-fn action_of(entry: &Entry) -> Option<&Action>
-    ensures one { IfSome result (λ action. entry.now.actions ≡ action.now ∷ []) }
-    ensures other { result ≡ None → alone entry.now.actions ≡ None }
-{
-    let actions = entry.actions.as_slice();
-    if actions.len() != 1 {
-        return None;
-    }
-    actions.first()
-}
-
 /// The message of the same kind.
-fn write_kind(alloc: Global, message: &OrderMessage) -> Result<Message, Memory>
-    ensures { IfOk result (λ written. written ≡ kind_written message.now) }
+fn write_kind(alloc: Global, message: &OrderMessage, version: Version) -> Result<Message, Memory>
+    ensures { IfOk result (λ written. written ≡ kind_written version message.now) }
 {
     match message {
-        OrderMessage::Propose { slot, view, entry } => match read_entry(alloc, entry)? {
-            Some(action) => Ok(Message::Propose {
+        OrderMessage::Propose { slot, view, entry } => match read_entry(alloc, entry, version)? {
+            Some(entry) => Ok(Message::Propose {
                 slot: *slot,
                 view: *view,
-                entry: entry_of(alloc, action)?,
+                entry,
             }),
             None => Ok(nothing()),
         },
@@ -89,11 +66,8 @@ fn write_kind(alloc: Global, message: &OrderMessage) -> Result<Message, Memory>
                 change,
             })
         }
-        OrderMessage::Done { slot, entry } => match read_entry(alloc, entry)? {
-            Some(action) => Ok(Message::Done {
-                slot: *slot,
-                entry: entry_of(alloc, action)?,
-            }),
+        OrderMessage::Done { slot, entry } => match read_entry(alloc, entry, version)? {
+            Some(entry) => Ok(Message::Done { slot: *slot, entry }),
             None => Ok(nothing()),
         },
     }
@@ -104,21 +78,22 @@ impl Carried for SlotOrder {
 
     ghost carries = { slot_carries };
 
-    fn write(alloc: Global, message: &OrderMessage) -> Result<Message, Memory> {
-        let written = write_kind(alloc, message)?;
-        if written.fits(Version::One) {
+    fn write(alloc: Global, message: &OrderMessage, version: Version) -> Result<Message, Memory> {
+        let written = write_kind(alloc, message, version)?;
+        if written.fits(version) {
             return Ok(written);
         }
         Ok(nothing())
     }
 
-    fn read(alloc: Global, message: Message) -> Result<Option<OrderMessage>, Memory> {
+    fn read(
+        alloc: Global,
+        message: Message,
+        version: Version,
+    ) -> Result<Option<OrderMessage>, Memory> {
         match message {
             Message::Propose { slot, view, entry } => {
-                let Some(action) = action_of(&entry) else {
-                    return Ok(None);
-                };
-                let entry = propose_entry(alloc, action)?;
+                let entry = propose_entry(alloc, &entry, version)?;
                 Ok(Some(OrderMessage::Propose { slot, view, entry }))
             }
             Message::Echo { slot, view, digest } => {
@@ -132,10 +107,7 @@ impl Carried for SlotOrder {
                 Ok(Some(OrderMessage::Change { slot, view, change }))
             }
             Message::Done { slot, entry } => {
-                let Some(action) = action_of(&entry) else {
-                    return Ok(None);
-                };
-                let entry = propose_entry(alloc, action)?;
+                let entry = propose_entry(alloc, &entry, version)?;
                 Ok(Some(OrderMessage::Done { slot, entry }))
             }
             _ => Ok(None),

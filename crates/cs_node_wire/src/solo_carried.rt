@@ -2,7 +2,7 @@
 ghost use Rattle.cs_node_wire.specs.SoloCarried.{solo_carrier, solo_carries};
 
 use crate::carried::Carried;
-use cs_base::Memory;
+use cs_base::{Memory, Version};
 use cs_order::{NoMessage, Solo};
 use cs_wire_message::Message;
 use std::alloc::Global;
@@ -12,11 +12,15 @@ impl Carried for Solo {
 
     ghost carries = { solo_carries };
 
-    fn write(_alloc: Global, _message: &NoMessage) -> Result<Message, Memory> {
+    fn write(_alloc: Global, _message: &NoMessage, _version: Version) -> Result<Message, Memory> {
         Ok(Message::Want { slot: 0 })
     }
 
-    fn read(_alloc: Global, _message: Message) -> Result<Option<NoMessage>, Memory> {
+    fn read(
+        _alloc: Global,
+        _message: Message,
+        _version: Version,
+    ) -> Result<Option<NoMessage>, Memory> {
         Ok(None)
     }
 }

@@ -18,7 +18,7 @@ use Rattle.cs_replay.specs.Answers.{course_status, dump_behind, replay_status, E
 use Rattle.cs_replay.specs.Closing.{summary_of, sums_of, EndsWith, IsLast, IsCutShort, whole_text, Closes}
 use Rattle.cs_tx_types.specs.declared.transaction.Tx.{Tx}
 use Rattle.cs_order.specs.Deeds.{Member, Machine}
-use Rattle.cs_node_rules.specs.Site.{Carrier}
+use Rattle.cs_node_rules.specs.Site.{Carriers}
 use Rattle.cs_replay_play.specs.declared.play.Replay.{Replay}
 use Rattle.cs_replay_play.specs.declared.halt.Halt.{Halt}
 use Rattle.cs_replay_play.specs.declared.halt.Halt.TheVariants as halt
@@ -56,7 +56,7 @@ cut before b site dumps contracts course (Limit line) never front = absurd never
 cut before b site dumps contracts course WriteFault short front = front
 cut before b site dumps contracts course Memory short front = front
 
-module _ {O J M : Type 0} (stands : O → Member M → Type 0) (approves : J → Tx → Bool) (rules : Machine M) (carrier : Carrier M) (s : Setting) (schedule : Schedule) (setup : IsSetupOf schedule s.setup) (dumps : Bool) (course : Course M) (r : Replay O J M) (a : Option (List ℕ)) where
+module _ {O J M : Type 0} (stands : O → Member M → Type 0) (approves : J → Tx → Bool) (rules : Machine M) (carrier : Carriers M) (s : Setting) (schedule : Schedule) (setup : IsSetupOf schedule s.setup) (dumps : Bool) (course : Course M) (r : Replay O J M) (a : Option (List ℕ)) where
   abbrev here : Site M
   here = site_in rules carrier s
 

@@ -7,7 +7,7 @@ use Rattle.cs_ledger.specs.Ledger.{Bytes}
 use Rattle.cs_order.specs.Deeds.{Member, Machine}
 use Rattle.cs_sched.specs.declared.schedule.Schedule.{Schedule}
 use Rattle.cs_replay_rules.specs.Aborts.{aborted}
-use Rattle.cs_node_rules.specs.Site.{Carrier, Site}
+use Rattle.cs_node_rules.specs.Site.{Carriers, Site}
 use Rattle.cs_node_rules.specs.World.{Happening, recorded_history}
 use Rattle.cs_replay_rules.specs.Lines.{history_text, limit_line, forged_line}
 use Rattle.cs_replay_rules.specs.Play.{Played, Course, Goes, Stops, Forges, size_of, closing_text}
@@ -46,7 +46,7 @@ end_text {M} dumps site contracts world =
     history_text (recorded_history site world) ++ dump_if dumps site contracts world
 
 -- a text is that of what a replay of the schedule stands for
-abbrev pub EndsWith : {O J M : Type 0} → (O → Member M → Type 0) → (J → Tx → Bool) → Machine M → Carrier M
+abbrev pub EndsWith : {O J M : Type 0} → (O → Member M → Type 0) → (J → Tx → Bool) → Machine M → Carriers M
     → Replay O J M → Schedule → Bool → Bytes → Type 0
 EndsWith {O} {J} {M} stands approves rules carrier r schedule dumps text =
     WhereStands stands approves rules carrier r
@@ -54,7 +54,7 @@ EndsWith {O} {J} {M} stands approves rules carrier r schedule dumps text =
 
 -- what stands behind the lines of the events, and what is answered, by how these ended: the history, and the dump where
 -- it is wanted, or the line of the event that was refused
-abbrev pub IsLast : {O J M : Type 0} → (O → Member M → Type 0) → (J → Tx → Bool) → Machine M → Carrier M
+abbrev pub IsLast : {O J M : Type 0} → (O → Member M → Type 0) → (J → Tx → Bool) → Machine M → Carriers M
     → Replay O J M → Schedule → Bool → Result (Unit {0}) Halt → Bytes → Result Summary ReplayError → Type 0
 IsLast {O} {J} {M} stands approves rules carrier r schedule dumps (Ok done) text answer =
     EndsWith stands approves rules carrier r schedule dumps text × (answer ≡ Ok (sums_of r))

@@ -14,7 +14,7 @@ use Rattle.cs_order.specs.Deeds.{Member, Machine}
 use Rattle.cs_sched.specs.declared.schedule.Event.{Event}
 use Rattle.cs_sched.specs.declared.schedule.Event.TheVariants.{Say, Inject, Deliver, Tick, Drain}
 use Rattle.cs_node_rules.specs.Site as Given
-use Rattle.cs_node_rules.specs.Site.{Input, Datagram, Carrier, Site, signs_of}
+use Rattle.cs_node_rules.specs.Site.{Input, Datagram, Carriers, Site, signs_of}
 use Rattle.cs_node_rules.specs.World.{happens, is_genuine}
 use Rattle.cs_node_rules.specs.Lines.{Parcel, parcels_of}
 use Rattle.cs_replay_rules.specs.Lines.{event_lines}
@@ -154,7 +154,7 @@ front-more : (a b : Option (List ℕ)) (text whole : List ℕ) → AppendsFront 
 front-more a b text whole (front, rest, is, written) (more, grown) =
     (front, rest ++ more, grown ∙ ap (λ t. t ++ more) is ∙ append_assoc front rest more, written)
 
-module _ {O J M : Type 0} (stands : O → Member M → Type 0) (approves : J → Tx → Bool) (rules : Machine M) (carrier : Carrier M) (s : Setting) where
+module _ {O J M : Type 0} (stands : O → Member M → Type 0) (approves : J → Tx → Bool) (rules : Machine M) (carrier : Carriers M) (s : Setting) where
   -- where the first part stops, the whole does
   pub ends-then : (course : Course M) (next : Played M → Course M) (r : Replay O J M) (written : Option (List ℕ)) (h : Halt) → ((p : Played M) → IsStart p.text (played_by (next p)).text)
       → ReplayEnds stands approves rules carrier s course r written (Err h) → ReplayEnds stands approves rules carrier s (then_plays course next) r written (Err h)

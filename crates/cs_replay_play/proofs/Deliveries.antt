@@ -3,16 +3,13 @@ use Rattle.std.proofs.Common.{◌≡◌, ℕ, ◌<◌, ◌-◌, Bool, true, fals
 use Rattle.cs_base.specs.declared.node_id.NodeId.{NodeId}
 use Rattle.cs_tx_types.specs.declared.transaction.Tx.{Tx}
 use Rattle.cs_order.specs.Deeds.{Member, Machine}
-use Rattle.cs_node_rules.specs.Site.{Carrier, Site, Datagram}
+use Rattle.cs_node_rules.specs.Site.{Carriers, Site, Datagram}
 use Rattle.cs_node_rules.specs.Lines.{Parcel}
 use Rattle.cs_replay_rules.specs.Play.{Played, Course, Goes, then_plays, arrived, with_arrived, occurs, delivers, first_left, drains, drained}
 use Rattle.cs_replay_play.specs.Post as Kept
 use Rattle.cs_replay_play.specs.declared.play.Replay.{Replay}
 use Rattle.cs_replay_play.specs.declared.halt.Halt.{Halt}
 use Rattle.cs_base.specs.NodeId.{is_node, is_client, same_name}
-use Rattle.cs_base.specs.Version.{version_of}
-use Rattle.cs_wire.specs.Keys.{key_between}
-use Rattle.cs_wire.specs.Datagram.{datagram_with}
 use Rattle.cs_node_rules.specs.Net.{Net, net_of}
 use Rattle.cs_replay_play.specs.Voicing.{Voicing, SaysTo}
 use Rattle.cs_replay_play.specs.Standing.{HasNode, Rests, Setting, site_in, StandsPrinted}
@@ -29,10 +26,9 @@ pub said-bytes : (s : Setting) (count : ℕ) (v : Voicing) (from to : NodeId) (k
 said-bytes s count v from to kind body bytes rests has other says =
     let honest : (net_of v.config v.master rests.liars).is_honest to ≡ true = subst (λ (net : Net). net.is_honest to ≡ true) rests.speaks ((rests.honest to).1 has) in
     says (ap (λ b. b || is_client to) (and-left (is_node v.config to) _ honest)) other
-    ∙ ap (λ version. datagram_with version (key_between v.master from to) from to kind body) (ap version_of rests.first)
     ∙ ap (λ (net : Net). net.datagram from to kind body) (sym rests.speaks)
 
-module _ {O J M : Type 0} (stands : O → Member M → Type 0) (approves : J → Tx → Bool) (rules : Machine M) (carrier : Carrier M) (s : Setting) where
+module _ {O J M : Type 0} (stands : O → Member M → Type 0) (approves : J → Tx → Bool) (rules : Machine M) (carrier : Carriers M) (s : Setting) where
   abbrev site : Site M
   site = site_in rules carrier s
 

@@ -8,6 +8,7 @@ use Rattle.cs_tx_types.specs.declared.session.Session.{Session}
 use Rattle.cs_tx_types.specs.declared.vote.Vote.{Vote}
 use Rattle.cs_tx_types.specs.declared.vote.Vote.TheVariants.{Commit}
 use Rattle.cs_tx_types.specs.declared.action.Action.{Action}
+use Rattle.cs_tx_types.specs.declared.entry.Entry.{Entry}
 use Rattle.cs_tx_types.specs.declared.checkpoint.Checkpoint.{Checkpoint}
 use Rattle.cs_base.specs.declared.version.Version.TheVariants.{One}
 use Rattle.cs_tx_types.specs.Log.{leaf_encoding}
@@ -31,11 +32,11 @@ use Rattle.cs_ledger.specs.Ledger.{Bytes}
 use Rattle.cs_node_rules.specs.declared.cause.Cause.{Cause}
 use Rattle.cs_node_rules.specs.declared.cause.Cause.TheVariants.{Role, Old, Far, Leader, Repeat, Unopened}
 use Rattle.cs_node_state.specs.Setup.{Setup, digest_of, concerned}
-use Rattle.cs_node_rules.proofs.Actions.{one-signs}
+use Rattle.cs_node_rules.proofs.Entries.{alone-signs}
 use Rattle.cs_tx_types.specs.Session.{session_in}
 use Rattle.cs_node_state.specs.Admission.{due}
 use Rattle.cs_node_state.specs.Pool.{Pool, is_pooled}
-use Rattle.cs_node_state.specs.Bench.{Bench, Ran, noted, executed, slot_executed, effect_from, next_leaf, vote_told}
+use Rattle.cs_node_state.specs.Bench.{Bench, Ran, noted, executed, action_executed, effect_from, next_leaf, vote_told}
 use Rattle.cs_replay_rules.specs.Dumps.{heads_below}
 use Rattle.cs_node_rules.proofs.Heard.{AllHeard, heard}
 use Rattle.cs_node_rules.specs.Members.{is_other_member, others}
@@ -222,7 +223,11 @@ sent-told : {M : Type 0} (signs : List Sign) (past : List (Mark M)) (kept : Logg
 sent-told [] past kept all = refl
 sent-told (sign ∷ signs) past kept all = all.0.tells (signs_logged (signs_of (plain signs ++ past)) kept) ∙ sent-told signs past kept all.1
 
-module _ {M : Type 0} (site : Site M) where
+-- each entry of a site has one action
+abbrev pub EntriesAreAlone : {M : Type 0} → Site M → Type 0
+EntriesAreAlone {M} site = (p : Proposed) → (action : Action) × ((site.entry_in p).actions ≡ action ∷ [])
+
+module _ {M : Type 0} (site : Site M) (alone : EntriesAreAlone site) where
   -- the node after signs
   abbrev At : View M → List Sign → View M
   At v signs = view_after site (plain signs) v
@@ -304,14 +309,14 @@ module _ {M : Type 0} (site : Site M) where
   abbrev with_last : Log → Logged → Logged
   with_last log kept = with_made (made_last log) kept
 
-  -- the entry that was chosen for the next slot is executed
+  -- the only action of the entry that was chosen for the next slot is executed
   module _ (w : View M) (slot : ℕ) (entry : Action) (kept : Logged) (is : kept ≡ logged_of w.bench.log) (enough : HasLeaves w.bench.log)
       (next : slot ≡ length w.bench.log.leaves) (chosen : length (chosen_in w.member.deeds) ≡ suc slot) where
     abbrev ran : Ran
     ran = executed site.setup w.me.shard w.bench entry
 
     abbrev left : Bench
-    left = slot_executed site.setup w.me.shard w.bench entry
+    left = action_executed site.setup w.me.shard w.bench entry
 
     abbrev the_did : List Sign
     the_did = Did slot 0 entry ran.effect ∷ []
@@ -378,11 +383,11 @@ module _ {M : Type 0} (site : Site M) where
         fits-same (λ log k. k) w (said ++ noted) noted kept (idle-same w said noted (sent-idle said (all-sent (others site.setup.f w.me (w.me.shard ∷ [])) (message.Head c)))) all in
         subst (λ signs. Fits (At w signs) (told signs kept)) (sym (append_assoc said (Headed c.number (head_of c) ∷ []) all_ran)) after_all
 
-    executed-fits : Fits (At w (execution_signs site.setup w.me w.bench slot entry)) (told (execution_signs site.setup w.me w.bench slot entry) kept)
-    executed-fits =
+    executed-fits : (whole : Entry) → whole.actions ≡ entry ∷ [] → Fits (At w (execution_signs site.setup w.me w.bench slot whole)) (told (execution_signs site.setup w.me w.bench slot whole) kept)
+    executed-fits whole only =
         let log_is : left.log ≡ (bench_after site.setup w.me.shard all_ran w.bench).log = sym ran-log ∙ ap (λ (v : View M). v.bench.log) (at-bench all_ran w) in
         subst (λ (signs : List Sign). let all = headed_signs site.setup w.me (made_last (bench_after site.setup w.me.shard signs w.bench).log) ++ signs in Fits (At w all) (told all kept))
-        (sym (one-signs site.setup w.me w.bench slot entry))
+        (sym (alone-signs site.setup w.me w.bench slot whole.actions entry only))
         (headed-fits (made_last (bench_after site.setup w.me.shard all_ran w.bench).log) (ap made_last log_is))
 
   -- what is chosen is executed
@@ -397,7 +402,8 @@ module _ {M : Type 0} (site : Site M) where
       let w : View M = record { me = v.me; bench = v.bench; member = did deed v.member } in
       let sent = handed-sent v.me (site.machine.advancing v.member) in
       let chosen : length (chosen_in w.member.deeds) ≡ suc slot = omega (arith, length_push (chosen_in v.member.deeds) p) in
-      let all = executed-fits w slot (site.entry_in p) kept fits.is fits.enough fits.slots chosen in
+      let found = alone p in
+      let all = executed-fits w slot found.0 kept fits.is fits.enough fits.slots chosen (site.entry_in p) found.1 in
       let view : view_after site (plain signs ++ first) v ≡ view_after site (plain signs) w =
       after-append site (plain signs) first v ∙ ap (view_after site (plain signs)) (sent-view outs done v sent) in
       let tells : signs_logged (signs_of (plain signs ++ first)) kept ≡ told signs kept =
@@ -428,7 +434,7 @@ module _ {M : Type 0} (site : Site M) where
   moving-sent : (v : View M) (deed : Deed M) → AllSent (moved v deed)
   moving-sent v deed = sent-append (handed site v.me (sent_by deed)) _ (handed-sent v.me (sent_by deed)) (view-sent (length (chosen_in v.member.deeds)) (site.machine.view v.member) (site.machine.view (did deed v.member)))
 
-  due-leads : (v : View M) (o : Option Action) → TurnLeads v (due_marks site v o)
+  due-leads : (v : View M) (o : Option Entry) → TurnLeads v (due_marks site v o)
   due-leads v None = tt
   due-leads v (Some entry) = with-leads v (Proposing (site.proposed_of entry) (site.machine.proposing v.member (site.proposed_of entry))) refl
 

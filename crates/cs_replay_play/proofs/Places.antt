@@ -18,7 +18,7 @@ use Rattle.cs_node.specs.declared.outs.Made.{Made}
 use Rattle.cs_node.specs.Notes.{notes_of}
 use Rattle.cs_replay_play.specs.Logged.{Logged, none_logged, note_logged, notes_logged, logged_at, IsLogOf, AllLogged}
 use Rattle.cs_replay_play.specs.Standing.{Delivered}
-use Rattle.cs_replay_play.proofs.Leaves.{sign_logged, signs_logged, HasLeaves, event-leads, after-enough}
+use Rattle.cs_replay_play.proofs.Leaves.{sign_logged, signs_logged, HasLeaves, EntriesAreAlone, event-leads, after-enough}
 use Rattle.cs_replay_play.proofs.Views.{view-here, view-there, get-within, get-read}
 
 -- ---- what notes tell
@@ -94,15 +94,15 @@ get-logged (suc place) notes (first ∷ logs) (suc i) kept h =
       | inr left ↦ inr (record { other = λ e. left.other (omega arith); was = left.was })
     ]
 
-module _ {M : Type 0} (site : Site M) where
+module _ {M : Type 0} (site : Site M) (alone : EntriesAreAlone site) where
   -- one node took an input
   log-told : (world : List (Happening M)) (me : NodeId) (input : Input) (notes : List Note) (kept : Logged) → notes ≡ notes_of (signs_of (event_marks site (view_of site world me) input))
       → IsLogOf (view_of site world me) kept → IsLogOf (view_of site (happens site me input world) me) (notes_logged notes kept)
   log-told world me input notes kept told log =
       let v = view_of site world me in
       let signs = signs_of (event_marks site v input) in
-      let enough : HasLeaves v.bench.log = after-enough site (trail_of me world) (start_view site me) (omega arith) in
-      let fits = event-leads site v input kept (record { is = log.is; slots = log.slots; enough = enough }) in
+      let enough : HasLeaves v.bench.log = after-enough site alone (trail_of me world) (start_view site me) (omega arith) in
+      let fits = event-leads site alone v input kept (record { is = log.is; slots = log.slots; enough = enough }) in
       let tells : notes_logged notes kept ≡ signs_logged signs kept = ap (λ ns. notes_logged ns kept) told ∙ logged-noted signs kept in
       subst (λ (w : View M). IsLogOf w (notes_logged notes kept)) (sym (view-here site me input world))
       (subst (λ (k : Logged). IsLogOf (view_after site (event_marks site v input) v) k) (sym tells) (record { is = fits.is; slots = fits.slots }))
@@ -129,8 +129,9 @@ module _ {M : Type 0} (site : Site M) where
         count = length-logged place notes logs ∙ all.count;
       })
 
-  -- ---- before the first event
+-- ---- before the first event
 
+module _ {M : Type 0} (site : Site M) where
   none-at : (count i : ℕ) (kept : Logged) → slice_get (replicate count none_logged) i ≡ Some kept → kept ≡ none_logged
   none-at zero i kept h = let q : None ≡ Some kept = h in absurd (cc)
   none-at (suc count) zero kept h = let q : Some none_logged ≡ Some kept = h in cc

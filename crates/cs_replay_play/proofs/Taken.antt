@@ -4,7 +4,7 @@ use Rattle.cs_base.specs.declared.config.Config.{Config}
 use Rattle.cs_base.specs.declared.node_id.NodeId.{NodeId}
 use Rattle.cs_tx_types.specs.declared.transaction.Tx.{Tx}
 use Rattle.cs_order.specs.Deeds.{Member, Machine}
-use Rattle.cs_node_rules.specs.Site.{Input, Datagram, Carrier, Site, signs_of}
+use Rattle.cs_node_rules.specs.Site.{Input, Datagram, Carriers, Site, signs_of}
 use Rattle.cs_node_rules.specs.Signs.{Sign}
 use Rattle.cs_node_rules.specs.Trail.{event_marks}
 use Rattle.cs_replay_rules.specs.Aborts.{aborted_by}
@@ -65,7 +65,7 @@ rests-same : (s : Setting) (a b : Config) (v w : Voicing) → Rests s a.shards v
 rests-same s a b v w rests config voices =
     subst (λ (c : Config). Rests s c.shards w) (sym config) (subst (λ (x : Voicing). Rests s a.shards x) (sym voices) rests)
 
-module _ {O J M : Type 0} (stands : O → Member M → Type 0) (approves : J → Tx → Bool) (rules : Machine M) (carrier : Carrier M) (s : Setting) (r : Replay O J M) (p : Played M) (line : ℕ) (to : NodeId) (input : Input)
+module _ {O J M : Type 0} (stands : O → Member M → Type 0) (approves : J → Tx → Bool) (rules : Machine M) (carrier : Carriers M) (s : Setting) (r : Replay O J M) (p : Played M) (line : ℕ) (to : NodeId) (input : Input)
     (st : Stands stands approves rules carrier s r p) (has : HasNode s.names s.count to) where
   abbrev here : Site M
   here = site_in rules carrier s
@@ -166,7 +166,7 @@ module _ {O J M : Type 0} (stands : O → Member M → Type 0) (approves : J →
 -- ---- a delivery
 
 -- a replay in which a datagram has arrived
-module _ {O J M : Type 0} (stands : O → Member M → Type 0) (approves : J → Tx → Bool) (rules : Machine M) (carrier : Carrier M) (s : Setting) (r r' : Replay O J M) (p : Played M) (number : ℕ) (parcel : Parcel) where
+module _ {O J M : Type 0} (stands : O → Member M → Type 0) (approves : J → Tx → Bool) (rules : Machine M) (carrier : Carriers M) (s : Setting) (r r' : Replay O J M) (p : Played M) (number : ℕ) (parcel : Parcel) where
   pub arrived-stands : Stands stands approves rules carrier s r p → size_of (with_arrived number parcel p).parcels ≡ size_of p.parcels
       → r'.cores ≡ r.cores → r'.logs ≡ r.logs → r'.history ≡ r.history → r'.voices ≡ r.voices → r'.traced ≡ r.traced → r'.events ≡ r.events
       → r'.post ≡ (with_arrived number parcel p).parcels → Stands stands approves rules carrier s r' (with_arrived number parcel p)
@@ -194,7 +194,7 @@ module _ {M : Type 0} (site : Site M) (traced : Bool) (line number : ℕ) (parce
   read is = ap (λ b. cond b (occurs site traced line parcel.to (Datagram parcel.bytes) p) (Goes p)) is
 
 -- who has no core is not honest, and who has one is
-pub no-node : {O J M : Type 0} (stands : O → Member M → Type 0) (approves : J → Tx → Bool) (rules : Machine M) (carrier : Carrier M) (s : Setting) (r : Replay O J M) (p : Played M) (name : NodeId) → Stands stands approves rules carrier s r p
+pub no-node : {O J M : Type 0} (stands : O → Member M → Type 0) (approves : J → Tx → Bool) (rules : Machine M) (carrier : Carriers M) (s : Setting) (r : Replay O J M) (p : Played M) (name : NodeId) → Stands stands approves rules carrier s r p
     → ((i : ℕ) → i < length r.cores.items → (view_of (site_in rules carrier s) p.world (s.names i)).me ≡ name → ⊥) → s.net.is_honest name ≡ false
 no-node stands approves rules carrier s r p name st none = by (s.net.is_honest name) refl
   where
@@ -204,7 +204,7 @@ no-node stands approves rules carrier s r p name st none = by (s.net.is_honest n
         absurd (none has.0 (subst (λ n. has.0 < n) (sym st.count) has.1) (view-me (site_in rules carrier s) p.world (s.names has.0) ∙ has.2))
     by false is = is
 
-pub a-node : {O J M : Type 0} (stands : O → Member M → Type 0) (approves : J → Tx → Bool) (rules : Machine M) (carrier : Carrier M) (s : Setting) (r : Replay O J M) (p : Played M) (name : NodeId) (place : ℕ) → Stands stands approves rules carrier s r p
+pub a-node : {O J M : Type 0} (stands : O → Member M → Type 0) (approves : J → Tx → Bool) (rules : Machine M) (carrier : Carriers M) (s : Setting) (r : Replay O J M) (p : Played M) (name : NodeId) (place : ℕ) → Stands stands approves rules carrier s r p
     → place < length r.cores.items → (view_of (site_in rules carrier s) p.world (s.names place)).me ≡ name → HasNode s.names s.count name
 a-node stands approves rules carrier s r p name place st within is =
     (place, subst (λ n. place < n) st.count within, sym (view-me (site_in rules carrier s) p.world (s.names place)) ∙ is)
@@ -218,7 +218,7 @@ size-arrived (first ∷ parcels) zero parcel is =
 size-arrived (first ∷ parcels) (suc k) parcel is = ap (λ n. length first.bytes + n) (size-arrived parcels k parcel is)
 
 -- no rule applies at an honest node
-pub all-quiet : {O J M : Type 0} (stands : O → Member M → Type 0) (approves : J → Tx → Bool) (rules : Machine M) (carrier : Carrier M) (s : Setting) (r : Replay O J M) (p : Played M) → Stands stands approves rules carrier s r p
+pub all-quiet : {O J M : Type 0} (stands : O → Member M → Type 0) (approves : J → Tx → Bool) (rules : Machine M) (carrier : Carriers M) (s : Setting) (r : Replay O J M) (p : Played M) → Stands stands approves rules carrier s r p
     → AllQuiet (site_in rules carrier s) p.world
 all-quiet stands approves rules carrier s r p st = λ name honest.
     core-quiet stands approves (site_in rules carrier s) s.names r.cores.items p.world name st.all

@@ -11,7 +11,7 @@ use Rattle.cs_order.specs.Deeds.{Member, Machine}
 use Rattle.cs_ledger.specs.Ledger.{Bytes}
 use Rattle.cs_wire.specs.declared.input.Out.{Out}
 use Rattle.cs_node_rules.specs.Lines.{Parcel}
-use Rattle.cs_node_rules.specs.Site.{Carrier, Site}
+use Rattle.cs_node_rules.specs.Site.{Carriers, Site}
 use Rattle.cs_replay_rules.specs.Play.{Played, Course, Goes, Stops, Forges, played_by, size_of, most_sent}
 use Rattle.cs_replay_play.specs.declared.play.Replay.{Replay}
 use Rattle.cs_replay_play.specs.declared.halt.Halt.{Halt}
@@ -42,7 +42,7 @@ Sends line me outs old new (Err halt.Memory) = Unit {0}
 -- ---- events
 
 -- an event was taken in, and this text is to be printed; or it would have passed a limit
-abbrev pub TakesEvent : {O J M : Type 0} → (O → Member M → Type 0) → (J → Tx → Bool) → Machine M → Carrier M
+abbrev pub TakesEvent : {O J M : Type 0} → (O → Member M → Type 0) → (J → Tx → Bool) → Machine M → Carriers M
     → Setting → Course M → Played M → Replay O J M → Result (String Global) Halt → Type 0
 TakesEvent {O} {J} {M} stands approves rules carrier s course p r (Ok text) =
     (q : Played M) × (course ≡ Goes q) × Stands stands approves rules carrier s r q
@@ -54,7 +54,7 @@ TakesEvent {O} {J} {M} stands approves rules carrier s course p r (Err halt.Memo
 
 -- It went on; or it stopped at a limit, or at a forged datagram, with the lines of the events before; or what was
 -- written is a front of all lines.
-abbrev pub ReplayEnds : {O J M : Type 0} → (O → Member M → Type 0) → (J → Tx → Bool) → Machine M → Carrier M
+abbrev pub ReplayEnds : {O J M : Type 0} → (O → Member M → Type 0) → (J → Tx → Bool) → Machine M → Carriers M
     → Setting → Course M → Replay O J M → Option Bytes → Result (Unit {0}) Halt → Type 0
 ReplayEnds {O} {J} {M} stands approves rules carrier s course r written (Ok done) =
     (p : Played M) × (course ≡ Goes p) × StandsPrinted stands approves rules carrier s r written p
@@ -79,7 +79,7 @@ Always s = Unit {0}
 
 -- Whatever a replay stands for before a call, it ends as this step of that says, in each setting that has what the
 -- call needs.
-abbrev pub Plays : {O J M : Type 0} → (O → Member M → Type 0) → (J → Tx → Bool) → Machine M → Carrier M
+abbrev pub Plays : {O J M : Type 0} → (O → Member M → Type 0) → (J → Tx → Bool) → Machine M → Carriers M
     → Replay O J M → Option Bytes → Replay O J M → Option Bytes → Result (Unit {0}) Halt
     → (Setting → Type 0) → PlayStep M → Type 0
 Plays {O} {J} {M} stands approves rules carrier old before new after result Needs step =
@@ -87,14 +87,14 @@ Plays {O} {J} {M} stands approves rules carrier old before new after result Need
     → ReplayEnds stands approves rules carrier s (step (site_in rules carrier s) s.traced p) new after result
 
 -- the same of a call that takes an event in, and hands out the text that is to be printed
-abbrev pub ReplayTakesIn : {O J M : Type 0} → (O → Member M → Type 0) → (J → Tx → Bool) → Machine M → Carrier M
+abbrev pub ReplayTakesIn : {O J M : Type 0} → (O → Member M → Type 0) → (J → Tx → Bool) → Machine M → Carriers M
     → Replay O J M → Replay O J M → Result (String Global) Halt → (Setting → Type 0) → PlayStep M → Type 0
 ReplayTakesIn {O} {J} {M} stands approves rules carrier old new result Needs step =
     (s : Setting) (p : Played M) → Stands stands approves rules carrier s old p → Needs s
     → TakesEvent stands approves rules carrier s (step (site_in rules carrier s) s.traced p) p new result
 
 -- a fact of whatever a replay stands for
-abbrev pub WhereStands : {O J M : Type 0} → (O → Member M → Type 0) → (J → Tx → Bool) → Machine M → Carrier M
+abbrev pub WhereStands : {O J M : Type 0} → (O → Member M → Type 0) → (J → Tx → Bool) → Machine M → Carriers M
     → Replay O J M → (Setting → Played M → Type 0) → Type 0
 WhereStands {O} {J} {M} stands approves rules carrier r Fact =
     (s : Setting) (p : Played M) → Stands stands approves rules carrier s r p → Fact s p

@@ -12,7 +12,7 @@ use Rattle.cs_sched.specs.declared.schedule.Event.{Event}
 use Rattle.cs_sched.specs.declared.schedule.Event.TheVariants.{Say, Inject, Deliver, Tick, Drain}
 use Rattle.cs_node_state.specs.Setup.{Setup}
 use Rattle.cs_node_rules.specs.Net.{Net, net_of}
-use Rattle.cs_node_rules.specs.Site.{Input, Carrier, Site, View, signs_of}
+use Rattle.cs_node_rules.specs.Site.{Input, Carriers, Site, View, signs_of}
 use Rattle.cs_node_rules.specs.Trail.{event_marks}
 use Rattle.cs_node_rules.specs.World.{Happening, view_of, happens, firsts_of}
 use Rattle.cs_replay_rules.specs.Aborts.{aborted}
@@ -36,7 +36,7 @@ pub record Setting : Type 0 where
   pub traced : Bool
   pub before : Option Bytes  -- what had been written before the first event
 
-abbrev pub site_in : {M : Type 0} → Machine M → Carrier M → Setting → Site M
+abbrev pub site_in : {M : Type 0} → Machine M → Carriers M → Setting → Site M
 site_in {M} rules carrier s = site_of s.setup s.net rules carrier
 
 -- ---- nodes
@@ -77,7 +77,7 @@ pub record Rests (s : Setting) (count : ℕ) (voicing : Voicing) : Type 0 where
 
 -- it stands for what was played
 pub record Stands {O J M : Type 0} (stands : O → Member M → Type 0) (approves : J → Tx → Bool)
-    (rules : Machine M) (carrier : Carrier M) (s : Setting) (r : Replay O J M) (p : Played M) : Type 0 where
+    (rules : Machine M) (carrier : Carriers M) (s : Setting) (r : Replay O J M) (p : Played M) : Type 0 where
   pub rests : Rests s r.history.config.shards r.voices
   pub traced : r.traced ≡ s.traced
   pub count : length r.cores.items ≡ s.count
@@ -91,7 +91,7 @@ pub record Stands {O J M : Type 0} (stands : O → Member M → Type 0) (approve
 
 -- and the lines of its events were written
 pub record StandsPrinted {O J M : Type 0} (stands : O → Member M → Type 0) (approves : J → Tx → Bool)
-    (rules : Machine M) (carrier : Carrier M) (s : Setting) (r : Replay O J M) (written : Option Bytes) (p : Played M)
+    (rules : Machine M) (carrier : Carriers M) (s : Setting) (r : Replay O J M) (written : Option Bytes) (p : Played M)
     : Type 0 where
   pub holds : Stands stands approves rules carrier s r p
   pub printed : Appends s.before written p.text

@@ -7,6 +7,8 @@ use Rattle.cs_base.specs.declared.node_id.NodeId.{NodeId}
 use Rattle.cs_tx_types.specs.declared.session.Session.{Session}
 use Rattle.cs_tx_types.specs.declared.vote.Vote.TheVariants.{Commit, Abort}
 use Rattle.cs_tx_types.specs.declared.action.Action.{Action}
+use Rattle.cs_base.specs.declared.version.Version.TheVariants.{One}
+use Rattle.cs_tx_types.specs.Entry.{entry_alone}
 use Rattle.cs_tx_types.specs.declared.action.Action.TheVariants.{Prepare, Decide}
 use Rattle.cs_order.specs.declared.solo.NoMessage.{NoMessage}
 use Rattle.cs_order.specs.Counts.{count_below}
@@ -19,7 +21,6 @@ use Rattle.cs_wire_message.specs.declared.message.Message.TheVariants as message
 use Rattle.cs_wire.specs.Opened.{Opened}
 use Rattle.cs_wire.specs.declared.opening.OpenError.TheVariants as error
 use Rattle.cs_base.specs.NodeId.{same_name}
-use Rattle.cs_node_state.specs.Setup.{actions_of}
 use Rattle.cs_node_rules.specs.Signs.{Sign, Did}
 use Rattle.cs_node_rules.specs.Site.{Datagram, Mark, Site, start_view, signs_of}
 use Rattle.cs_node_rules.specs.Trail.{event_marks, settled}
@@ -58,6 +59,11 @@ bytes_of (Prepare x) = 0 ∷ x.number ∷ []
 bytes_of (Decide Commit x) = 1 ∷ x.number ∷ []
 bytes_of (Decide Abort x) = 2 ∷ x.number ∷ []
 
+-- the action of an entry of one
+abbrev pub alone : List Action → Action
+alone [] = Prepare (session 0)
+alone (action ∷ more) = action
+
 abbrev entry_at : Bytes → Action
 entry_at (zero ∷ number ∷ []) = Prepare (session number)
 entry_at (suc zero ∷ number ∷ []) = Decide Commit (session number)
@@ -82,16 +88,17 @@ opened_as _ = Err error.Body
 abbrev site : Site NoMessage
 site = record {
   setup = record {
+    version = One;
     shards = 1;
     f = 0;
     rules = record { shard_of = λ name. 0; genesis = coin 1 5 ∷ []; dummies = 0; dummy_object = [] };
     session_of = λ x. record { digest = x.number ∷ []; transaction = transaction x.number; dummies = [] };
   };
-  net = record { datagram = datagram; opened = λ name bytes. opened_as (drop 5 bytes); is_honest = same_name me };
+  net = record { version = One; datagram = datagram; opened = λ name bytes. opened_as (drop 5 bytes); is_honest = same_name me };
   machine = solo;
   carrier = record { written = λ m. message.Want 0; read = λ said. None };
-  proposed_of = λ entry. record { digest = bytes_of entry; bytes = bytes_of entry };
-  entry_in = λ p. entry_at p.bytes;
+  proposed_of = λ entry. record { digest = bytes_of (alone entry.actions); bytes = bytes_of (alone entry.actions) };
+  entry_in = λ p. entry_alone (entry_at p.bytes);
 }
 
 abbrev say : Bytes → ℕ × Event
@@ -107,38 +114,38 @@ effects (Did slot place entry effect ∷ past) = (slot, effect) ∷ effects past
 effects (sign ∷ past) = effects past
 
 two_slots : effects (signs_of marks) ≡ (1, Shard.Accepted) ∷ (0, Shard.Voted Shard.Commit) ∷ []
-unfolding actions_of event_marks settled count_below
+unfolding event_marks settled count_below
 two_slots = refl
 
 nine_marks : length marks ≡ 9
-unfolding actions_of event_marks settled count_below
+unfolding event_marks settled count_below
 nine_marks = refl
 
 -- what a replay prints, digests in hex
 split_coin : lines site false (say (16 ∷ []) ∷ []) ≡ codes "node 0.0 slot 0 prepare 10 commit\nnode 0.0 slot 1 decide 10 accepted\nhistory 1\ntx a0\n"
-unfolding lines actions_of event_marks settled count_below digits encode_with
+unfolding lines event_marks settled count_below digits encode_with
 split_coin = refl
 
 empty_schedule : lines site false [] ≡ codes "history 0\n"
-unfolding lines actions_of event_marks settled count_below digits encode_with
+unfolding lines event_marks settled count_below digits encode_with
 empty_schedule = refl
 
 -- a decided session, another number of its transaction, and what is no session leave no line
 second_number : lines site false (say (16 ∷ []) ∷ say (16 ∷ []) ∷ say (17 ∷ []) ∷ say [] ∷ []) ≡ codes "node 0.0 slot 0 prepare 10 commit\nnode 0.0 slot 1 decide 10 accepted\nhistory 1\ntx a0\n"
-unfolding lines actions_of event_marks settled count_below digits encode_with
+unfolding lines event_marks settled count_below digits encode_with
 second_number = refl
 
 other_value : lines site false (say (20 ∷ []) ∷ []) ≡ codes "node 0.0 slot 0 prepare 14 abort\nhistory 0\n"
-unfolding lines actions_of event_marks settled count_below digits encode_with
+unfolding lines event_marks settled count_below digits encode_with
 other_value = refl
 
 denied : lines site false (say (21 ∷ []) ∷ []) ≡ codes "history 0\n"
-unfolding lines actions_of event_marks settled count_below digits encode_with
+unfolding lines event_marks settled count_below digits encode_with
 denied = refl
 
 -- a session that came before its coin was there stays aborted; another number of it is accepted
 prepare_again_after_abort : lines site false (say (18 ∷ []) ∷ say (16 ∷ []) ∷ say (18 ∷ []) ∷ say (19 ∷ []) ∷ []) ≡ codes "node 0.0 slot 0 prepare 12 abort\nnode 0.0 slot 1 prepare 10 commit\nnode 0.0 slot 2 decide 10 accepted\nnode 0.0 slot 3 prepare 13 commit\nnode 0.0 slot 4 decide 13 accepted\nhistory 2\ntx a0\ntx a1\n"
-unfolding lines actions_of event_marks settled count_below digits encode_with
+unfolding lines event_marks settled count_below digits encode_with
 prepare_again_after_abort = refl
 
 -- ---- traces
@@ -150,10 +157,10 @@ told_again =
     ∷ (13, Inject me []) ∷ []
 
 repeated_submit_traced : lines site true told_again ≡ codes "at 0 7\nnode 0.0 slot 0 prepare 10 commit\nnode 0.0 slot 1 decide 10 accepted\nat 1 8\nsent 0 0.0 c.0 7 43535031071001\nat 2 12\nat 3 13\ndrop 0.0 body\nhistory 1\ntx a0\n"
-unfolding lines drained actions_of event_marks settled count_below digits encode_with
+unfolding lines drained event_marks settled count_below digits encode_with
 repeated_submit_traced = refl
 
 -- without the trace the lines of executions alone
 repeated_submit : lines site false told_again ≡ codes "node 0.0 slot 0 prepare 10 commit\nnode 0.0 slot 1 decide 10 accepted\nhistory 1\ntx a0\n"
-unfolding lines drained actions_of event_marks settled count_below digits encode_with
+unfolding lines drained event_marks settled count_below digits encode_with
 repeated_submit = refl

@@ -13,7 +13,7 @@ use Rattle.cs_tx_value.specs.declared.object.Object.{Object}
 use Rattle.cs_tx_types.specs.declared.session.Session.{Session}
 use Rattle.cs_wire_message.specs.declared.message.Message.{Message}
 use Rattle.cs_wire_message.specs.laws.Kinds.{kind_small}
-use Rattle.cs_base.specs.declared.version.Version.TheVariants.{One}
+use Rattle.cs_base.specs.Version.{version_of}
 use Rattle.cs_wire_message.specs.Message.{kind_of, body_of}
 use Rattle.cs_order.specs.Deeds.{Machine}
 use Rattle.cs_order.specs.Law.{Holds}
@@ -21,18 +21,18 @@ use Rattle.cs_sched.specs.declared.schedule.Event.{Event}
 use Rattle.cs_sched.specs.declared.schedule.Event.TheVariants as event
 use Rattle.cs_wire.specs.Keys.{key_between}
 use Rattle.cs_wire.specs.Opens.{IsName}
-use Rattle.cs_wire.specs.Opened.{Opened}
+use Rattle.cs_wire.specs.Opened.{Opened, keys_of_master}
 use Rattle.cs_ledger.specs.Ledger.{Bytes}
 use Rattle.cs_ledger.specs.Session as Seen
 use Rattle.cs_ledger.proofs.Basics.{in_either, bytes_refl}
 use Rattle.cs_node_rules.specs.Signs.{Dropped, Took, Entered, Viewed, Did, Headed, Kept, Sent}
-use Rattle.cs_node_rules.specs.Site.{Input, Datagram, Tick, Mark, In, Ordered, Plain, Carrier, Site, signs_of}
+use Rattle.cs_node_rules.specs.Site.{Input, Datagram, Tick, Mark, In, Ordered, Plain, Carriers, Site, signs_of}
 use Rattle.cs_node_rules.specs.Trail.{event_marks}
 use Rattle.cs_node_rules.specs.World.{Happening, trail_of, view_of, happens, IsLife, sent_in, was_sent, is_backed, is_genuine, is_genuine_input}
 use Rattle.cs_node_rules.specs.Lines.{Parcel, parcels_of}
-use Rattle.cs_node_rules.specs.Net.{Net, first_keys, net_of, sealed_by_net}
+use Rattle.cs_node_rules.specs.Net.{Net, net_of, sealed_by_net}
 use Rattle.cs_replay_rules.specs.Play.{Played, unplayed, Course, Goes, Stops, Forges, then_plays, played_by, size_of, most_events, most_sent, plays, within, occurs, injects, arrived, with_arrived, delivers, first_left, drains, drained, play, play_all}
-use Rattle.cs_node_rules.specs.Carrying.{Carries}
+use Rattle.cs_node_rules.specs.Carrying.{AllCarry}
 use Rattle.cs_node_law.specs.Made.{view_at, AllMade, IsLevel}
 use Rattle.cs_node_law.specs.Given.{InputIsBytes, AreBytes}
 use Rattle.cs_replay_rules.specs.PlayedWorlds.{IsSayable, IsGivable, IsPlayed, PlaysWorlds}
@@ -137,7 +137,7 @@ apart shard index shards f a node client =
     none : (x n : ℕ) → nat_lt x n ≡ true → n ≤ 16 → x ≡ CLIENT_SHARD → ⊥
     none x n h a e = grind (arith, h, a, e)
 
-module _ {M : Type 0} (machine : Machine M) (holds : Holds machine) (carrier : Carrier M) (carries : Carries machine carrier) (config : Config) (master : Bytes) (liars : List NodeId) (genesis : List Object) (session_of : Session → Seen.Session) (few : config.shards ≤ 16) (small : config.f ≤ 5) where
+module _ {M : Type 0} (machine : Machine M) (holds : Holds machine) (carrier : Carriers M) (carries : AllCarry machine carrier) (config : Config) (master : Bytes) (liars : List NodeId) (genesis : List Object) (session_of : Session → Seen.Session) (few : config.shards ≤ 16) (small : config.f ≤ 5) where
   abbrev At : Site M
   At = deployment machine carrier config master liars genesis session_of
 
@@ -165,16 +165,16 @@ module _ {M : Type 0} (machine : Machine M) (holds : Holds machine) (carrier : C
       ]
 
   opens-as : (from to : NodeId) (kind : ℕ) (body : Bytes) → IsName from → IsName to → kind < 256 → length body < 2 ^ 32 → (me : NodeId) (said : NodeId × Message) → net.opened me (net.datagram from to kind body) ≡ Ok said → said.0 ≡ from
-  opens-as from to kind body named addressed low short me said e = opens-from (key_between master from to) from to kind body named addressed low short (first_keys config master me) said e
+  opens-as from to kind body named addressed low short me said e = opens-from (version_of config.version) (key_between master from to) from to kind body named addressed low short (keys_of_master config master me) said e
 
   -- ---- what the marks of a node send
 
   sealed-fair : (me to : NodeId) (said : Message) (t : List (Mark M)) → net.is_honest me ≡ true → AllBytes t → AllMade At me (Plain (Sent to said) ∷ t) → IsFair net (record { from = me; to = to; bytes = sealed_by_net net me to said; arrived = false })
   sealed-fair me to said t honest bytes made =
-      let spoken = λ (h : net.is_honest to ≡ true). spoken-bytes said (sent-fits machine carrier config master liars genesis session_of carries holds me t bytes to (no-client to h) said made) in
+      let spoken = λ (h : net.is_honest to ≡ true). spoken-bytes (version_of config.version) said (sent-fits machine carrier config master liars genesis session_of carries holds me t bytes to (no-client to h) said made) in
       record {
-        bytes = λ h. bytes-datagram (key_between master me to) me to (kind_of said) (body_of One said) (kind_small said) (spoken h).0;
-        from = λ h name other e. opens-as me to (kind_of said) (body_of One said) (honest-named me honest) (honest-named to h) (kind_small said) (spoken h).1 name other e;
+        bytes = λ h. bytes-datagram (version_of config.version) (key_between master me to) me to (kind_of said) (body_of (version_of config.version) said) (kind_small said) (spoken h).0;
+        from = λ h name other e. opens-as me to (kind_of said) (body_of (version_of config.version) said) (honest-named me honest) (honest-named to h) (kind_small said) (spoken h).1 name other e;
       }
 
   sent-fair : (me : NodeId) (a t : List (Mark M)) → net.is_honest me ≡ true → AllBytes (a ++ t) → AllMade At me (a ++ t) → AreFair net (parcels_of net me (signs_of a))
@@ -319,7 +319,7 @@ module _ {M : Type 0} (machine : Machine M) (holds : Holds machine) (carrier : C
     play-played : (e : Event) (p : Played M) → IsGivable config net e → Plays p → CourseIs (play At traced line e p)
     play-played (event.Say from to kind body) p said h =
         occurs-played to (Datagram (net.datagram from to kind body)) p said.listener
-        (bytes-datagram (key_between master from to) from to kind body said.kind_fits said.is_bytes)
+        (bytes-datagram (version_of config.version) (key_between master from to) from to kind body said.kind_fits said.is_bytes)
         (said-genuine from to kind body (sent_in net p.world) said) h
     play-played (event.Inject to bytes) p here h = injects-played to bytes p here.0 here.1 h
     play-played (event.Deliver number) p here h = delivers-played number (slice_get p.parcels number) p refl h

@@ -9,6 +9,8 @@ use Rattle.cs_tx_types.specs.declared.session.Session.{Session}
 use Rattle.cs_tx_types.specs.declared.vote.Vote.{Vote}
 use Rattle.cs_tx_types.specs.declared.vote.Vote.TheVariants.{Commit, Abort}
 use Rattle.cs_tx_types.specs.declared.action.Action.{Action}
+use Rattle.cs_base.specs.declared.version.Version.TheVariants.{One}
+use Rattle.cs_tx_types.specs.Entry.{entry_alone}
 use Rattle.cs_tx_types.specs.declared.action.Action.TheVariants.{Prepare, Decide}
 use Rattle.cs_order.specs.declared.solo.NoMessage.{NoMessage}
 use Rattle.cs_order.specs.Counts.{count_below}
@@ -19,11 +21,10 @@ use Rattle.cs_sched.specs.declared.schedule.Event.TheVariants.{Say, Inject, Deli
 use Rattle.cs_wire_message.specs.declared.message.Message.TheVariants as message
 use Rattle.cs_wire.specs.Opened.{Opened}
 use Rattle.cs_wire.specs.declared.opening.OpenError.TheVariants as error
-use Rattle.cs_node_state.specs.Setup.{actions_of}
 use Rattle.cs_node_rules.specs.Site.{Site}
 use Rattle.cs_node_rules.specs.Trail.{event_marks, settled}
 use Rattle.cs_replay_rules.specs.Play.{drained, lines}
-use Rattle.cs_replay_rules.proofs.Example.{coin, bytes_of}
+use Rattle.cs_replay_rules.proofs.Example.{coin, bytes_of, alone}
 
 abbrev node : ℕ → NodeId
 node shard = record { shard = shard; index = 0 }
@@ -73,16 +74,17 @@ opened_as _ = Err error.Body
 abbrev site : Site NoMessage
 site = record {
   setup = record {
+    version = One;
     shards = 2;
     f = 0;
     rules = record { shard_of = λ name. if bytes_eq name (3 ∷ []) then 1 else 0; genesis = coin 1 5 ∷ []; dummies = 2; dummy_object = [] };
     session_of = λ x. record { digest = x.number ∷ []; transaction = splitting; dummies = record { shard = 1; serial = if x.number == 16 then 0 else 1 } ∷ [] };
   };
-  net = record { datagram = datagram; opened = λ name bytes. opened_as (drop 5 bytes); is_honest = λ name. (name.shard == 0) || (name.shard == 1) };
+  net = record { version = One; datagram = datagram; opened = λ name bytes. opened_as (drop 5 bytes); is_honest = λ name. (name.shard == 0) || (name.shard == 1) };
   machine = solo;
   carrier = record { written = λ m. message.Want 0; read = λ said. None };
-  proposed_of = λ entry. record { digest = bytes_of entry; bytes = bytes_of entry };
-  entry_in = λ p. entry_at p.bytes;
+  proposed_of = λ entry. record { digest = bytes_of (alone entry.actions); bytes = bytes_of (alone entry.actions) };
+  entry_in = λ p. entry_alone (entry_at p.bytes);
 }
 
 abbrev say : ℕ → ℕ → ℕ × Event
@@ -90,20 +92,20 @@ say n shard = (0, Say client (node shard) 1 (n ∷ []))
 
 -- each shard votes, and decides once it has the vote of the other
 two_shards_one_dummy : lines site false (say 0 0 ∷ say 0 1 ∷ (0, Drain 10) ∷ []) ≡ codes "node 0.0 slot 0 prepare 10 commit\nnode 1.0 slot 0 prepare 10 commit\nnode 1.0 slot 1 decide 10 accepted\nnode 0.0 slot 1 decide 10 accepted\nhistory 1\ntx a0\n"
-unfolding lines drained actions_of event_marks settled count_below digits encode_with
+unfolding lines drained event_marks settled count_below digits encode_with
 two_shards_one_dummy = refl
 
 -- an old vote is answered by the vote on record, which asks for nothing, and so is dropped
 old_vote_at_output_shard : lines site false (say 0 0 ∷ say 0 1 ∷ (0, Drain 10) ∷ (0, Deliver 0) ∷ (0, Deliver 2) ∷ []) ≡ codes "node 0.0 slot 0 prepare 10 commit\nnode 1.0 slot 0 prepare 10 commit\nnode 1.0 slot 1 decide 10 accepted\nnode 0.0 slot 1 decide 10 accepted\nhistory 1\ntx a0\n"
-unfolding lines drained actions_of event_marks settled count_below digits encode_with
+unfolding lines drained event_marks settled count_below digits encode_with
 old_vote_at_output_shard = refl
 
 -- a vote on one session of a transaction doesn't count for the other
 vote_of_another_session : lines site false (say 1 1 ∷ say 0 0 ∷ (0, Deliver 1) ∷ (0, Deliver 2) ∷ (0, Deliver 0) ∷ (0, Deliver 3) ∷ []) ≡ codes "node 1.0 slot 0 prepare 11 commit\nnode 0.0 slot 0 prepare 10 commit\nnode 1.0 slot 1 prepare 10 commit\nnode 1.0 slot 2 decide 10 accepted\nnode 0.0 slot 1 decide 10 accepted\nnode 0.0 slot 2 prepare 11 abort\nnode 1.0 slot 3 decide 11 aborted\nhistory 1\ntx a0\n"
-unfolding lines drained actions_of event_marks settled count_below digits encode_with
+unfolding lines drained event_marks settled count_below digits encode_with
 vote_of_another_session = refl
 
 -- a vote of a node that never gave it is forged
 forged_vote : lines site false (say 0 0 ∷ (9, Inject (node 0) (datagram (node 1) (node 0) 6 (1 ∷ 1 ∷ 0 ∷ []))) ∷ []) ≡ codes "node 0.0 slot 0 prepare 10 commit\nforged 9\n"
-unfolding lines drained actions_of event_marks settled count_below digits encode_with
+unfolding lines drained event_marks settled count_below digits encode_with
 forged_vote = refl

@@ -15,9 +15,9 @@ use Rattle.cs_sched.specs.declared.schedule.Event.{Event}
 use Rattle.cs_sched.specs.declared.schedule.Event.TheVariants as event
 use Rattle.cs_node_rules.specs.Net.{Net, net_of}
 use Rattle.cs_replay_rules.specs.Play.{unplayed, played_by, play_all}
-use Rattle.cs_node_rules.specs.Site.{Carrier, Site}
+use Rattle.cs_node_rules.specs.Site.{Carriers, Site}
 use Rattle.cs_node_rules.specs.World.{Happening, IsLife, AreHonest, NoForgery}
-use Rattle.cs_node_rules.specs.Carrying.{Carries}
+use Rattle.cs_node_rules.specs.Carrying.{AllCarry}
 use Rattle.cs_node_rules.specs.Deployment.{site_of}
 use Rattle.cs_node_state.specs.Deployed.{setup_of}
 use Rattle.cs_node_law.specs.Given.{AreBytes}
@@ -49,7 +49,7 @@ pub record IsPlayed {M : Type 0} (site : Site M) (world : List (Happening M)) : 
 -- Every schedule, played as far as the limits allow, and up to the first forged datagram, makes such a world.
 abbrev pub PlaysWorlds : {M : Type 0} → Machine M → Type 0
 PlaysWorlds {M} machine =
-    (carrier : Carrier M) → Carries machine carrier →
+    (carrier : Carriers M) → AllCarry machine carrier →
     (config : Config) (master : Bytes) (liars : List NodeId) (genesis : List Object)
     (session_of : Session → Seen.Session) (traced : Bool) (events : List (ℕ × Event)) →
     config.shards ≤ 16 → config.f ≤ 5 →

@@ -17,13 +17,14 @@ ghost use Rattle.cs_replay.specs.Sound.{IsSoundWorld, AfterEach};
 
 use cs_replay::worlds_are_sound;
 
-/// The keys of each key file speak in the net of any nodes and clients of which it is one, whoever
-/// gave the others theirs: so a node that is served with them is served in that net.
+/// The keys of each key file, in a deployment of version 1, speak in the net of any nodes and clients
+/// of which it is one, whoever gave the others theirs: so a node that is served with them is served
+/// in that net.
 ///
 /// It does nothing: its contract is a theorem, which a caller has by calling it.
 pub fn keys_of_files_speak()
     ensures { (config : Config) (text : List ℕ) (keys : NodeId → Keys) (liars : List NodeId)
-        (i : NodeId) → keys_of config text ≡ Ok (keys i) → (keys i).me ≡ i
+        (i : NodeId) → config.version ≡ 1 → keys_of config text ≡ Ok (keys i) → (keys i).me ≡ i
         → Speaks config (net_of_keys config keys liars) (keys i) }
 {}
 

@@ -6,3 +6,4 @@ pub mod Asking
 pub mod Apart
 pub mod Begun
 pub mod Fit
+pub mod Admitting

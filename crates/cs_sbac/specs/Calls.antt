@@ -53,7 +53,7 @@ accepted_by Standings.Open = None
 abbrev pub placed : Bool → Bytes → Session → Pool → Pool
 placed locked d x pool = if locked then entered_locked d x pool else without_session d pool
 
--- the execution of an entry behind a log answered this, and left this
+-- the execution of an action behind a log answered this, and left this
 pub record Executes (setup : Setup) (log : Log) (entry : Action) (old new : Held) (answer : Outcome) : Type 0 where
   pub effect_is : effect_of answer.effect ≡ (executed setup old.me.shard (bench_of log old) entry).effect
   pub voted_is : answer.voted

@@ -11,7 +11,7 @@ pub enum Entered {
     Full,
 }
 
-/// What the execution of an entry came to, and the node's vote, if it voted, with the mark that
+/// What the execution of an action came to, and the node's vote, if it voted, with the mark that
 /// it asks for the votes of the others.
 #[derive(Clone, Copy, Debug, PartialEq, Eq)]
 pub struct Outcome {

@@ -1,5 +1,6 @@
-//! Which entries a node admits, and the execution of one.
+//! Which entries a node admits, and the execution of an action.
 ghost use Rattle.std.specs.Prelude.{◌≡◌, ◌↔◌, IsSome, IfOk, IfSome};
+ghost use Rattle.std.specs.List.{AllByRecursion};
 ghost use Rattle.cs_tx_types.specs.declared.action.Action.TheVariants.{Prepare, Decide};
 ghost use Rattle.cs_tx_types.specs.Session.{SessionFits, ActionFits, session_in};
 ghost use Rattle.cs_check_rules.specs.Chain.{Log};
@@ -18,10 +19,10 @@ use cs_base::Memory;
 use cs_check::root_is_shown;
 use cs_node_pool::{Pool, is_decided};
 use cs_table::Effect;
-use cs_tx::{Action, Digest, Judge, Session, Vote, session_digest};
+use cs_tx::{Action, Digest, Entry, Judge, Session, Vote, session_digest};
 use std::alloc::Global;
 
-/// The digest of the session of an entry, where it comes next in the pool.
+/// The digest of the session of an action, where it comes next in the pool.
 fn known_in(pool: &Pool, entry: &Action) -> Result<Option<Digest>, Memory>
     ensures known { IfOk result (λ found.
         IfSome found (IsKnownSession pool.now.config (session_in entry.now))) }
@@ -47,7 +48,7 @@ fn digest_of(alloc: Global, session: &Session, known: Option<Digest>) -> Result<
     }
 }
 
-/// The same of the session of an entry.
+/// The same of the session of an action.
 fn digest_in(alloc: Global, entry: &Action, known: Option<Digest>) -> Result<Digest, Memory>
     requires fits { ActionFits entry.now }
     requires known { IfSome known (λ digest.
@@ -105,21 +106,41 @@ impl Sbac {
         }
     }
 
-    /// Whether the node admits an entry: a vote on an approved session, or a decision that the
+    /// Whether the node admits an action: a vote on an approved session, or a decision that the
     /// votes taken on a session of the pool carry.
-    pub fn admits<J: Judge>(&self, alloc: Global, entry: &Action, judge: &J) -> Result<bool, Memory>
-        requires { ActionFits entry.now }
+    fn admits_action<J: Judge>(
+        &self,
+        alloc: Global,
+        action: &Action,
+        judge: &J,
+    ) -> Result<bool, Memory>
+        requires { ActionFits action.now }
         ensures { AtAnyGenesis self.now.config (J.is_approved judge.now) (λ setup.
             IfOk result (λ admitted.
-            admitted ≡ admits setup self.now.me.shard self.now.pool entry.now)) }
+            admitted ≡ admits_action setup self.now.me.shard self.now.pool action.now)) }
     {
-        match entry {
+        match action {
             Action::Prepare(session) => self.admits_prepare(alloc, session, judge),
             Action::Decide(vote, session) => self.admits_decide(alloc, *vote, session),
         }
     }
 
-    /// Executes an entry. A session that was voted on is locked now, and the node's own vote on it
+    /// Whether the node admits an entry: each of its actions, as the pool is before all of them.
+    pub fn admits<J: Judge>(&self, alloc: Global, entry: &Entry, judge: &J) -> Result<bool, Memory>
+        requires { AllByRecursion ActionFits entry.now.actions }
+        ensures { AtAnyGenesis self.now.config (J.is_approved judge.now) (λ setup.
+            IfOk result (λ admitted.
+            admitted ≡ admits setup self.now.me.shard self.now.pool entry.now)) }
+    {
+        for action in entry.actions.as_slice() {
+            if !self.admits_action(alloc, action, judge)? {
+                return Ok(false);
+            }
+        }
+        Ok(true)
+    }
+
+    /// Executes an action. A session that was voted on is locked now, and the node's own vote on it
     /// is taken; or it leaves the pool, as does one on which a decision took effect.
     pub fn execute(&mut self, alloc: Global, entry: &Action) -> Result<Outcome, Memory>
         requires { ActionFits entry.now }

@@ -1,4 +1,4 @@
-//! The execution of an entry on the table and the pool of a node.
+//! The execution of an action on the table and the pool of a node.
 ghost use Rattle.std.specs.Prelude.{◌≡◌, Bool, true, Some, IsSome, OnOk, IfOk};
 ghost use Rattle.cs_tx_types.specs.declared.transaction.Tx.{Tx};
 ghost use Rattle.cs_tx_types.specs.Session.{SessionFits, ActionFits, session_in};
@@ -146,7 +146,7 @@ fn decide(
     })
 }
 
-/// Executes an entry whose session, of this digest, is well formed and has an anchor in the table.
+/// Executes an action whose session, of this digest, is well formed and has an anchor in the table.
 pub fn run(
     alloc: Global,
     me: NodeId,

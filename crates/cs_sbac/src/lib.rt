@@ -1,5 +1,5 @@
 //! Sharded Byzantine atomic commit at one node, over its table, its pool and its archive: what is
-//! admitted and due, the execution of an entry, the checkpoints of what was executed, and the
+//! admitted and due, the execution of an action, the checkpoints of what was executed, and the
 //! genesis objects that all begins with.
 #![tactic(auto)]
 

@@ -2,6 +2,7 @@
 ghost use Rattle.std.specs.Prelude.{◌≡◌, ◌<◌, ◌^◌, IfOk, IfSome, OnOk};
 ghost use Rattle.cs_base.specs.declared.version.Version.TheVariants.{One};
 ghost use Rattle.cs_tx_types.specs.Log.{LeafFits, ProofFits};
+ghost use Rattle.cs_tx_types.specs.declared.limits.TheConstants.{COVERED};
 ghost use Rattle.cs_check_rules.specs.Chain.{made_last, AtItsLog};
 ghost use Rattle.cs_check_rules.specs.Heads.{is_news};
 ghost use Rattle.cs_check_rules.specs.Proofs.{proof_of};
@@ -41,6 +42,7 @@ impl Sbac {
             (KeepsBench self.new (with_leaf leaf.now (bench_of log self.old)))) }
         ensures made { AtItsLog self.old.archived.kept (λ log. IfOk result (λ made.
             made ≡ made_last (with_leaf leaf.now (bench_of log self.old)).log)) }
+        ensures covers { IfOk result (λ made. IfSome made (λ checkpoint. checkpoint.leaves ≡ COVERED)) }
         ensures leaves { OnOk result
             (HasLeaves self.new.archived.hashed (seen self.new.table)) }
         ensures config { OnOk result (self.new.config ≡ self.old.config) }

@@ -1,5 +1,6 @@
 //! The table of a node, its pool, and what it keeps for checkpoints.
 ghost use Rattle.std.specs.Prelude.{◌≡◌, [], None, OnOk, IfOk};
+ghost use Rattle.cs_base.specs.Version.{version_of};
 ghost use Rattle.cs_tx_types.specs.Session.{SessionFits};
 ghost use Rattle.cs_tx.specs.Digest.{digest_of_session};
 ghost use Rattle.cs_node_state.specs.Pool.{found, is_pooled, pool_changed, with_ballot};
@@ -14,12 +15,12 @@ ghost use Rattle.cs_sbac.specs.Calls.{entered_in, pool_entered, pool_entered_wit
 use crate::answers::Entered;
 use crate::execution::newcomer;
 use crate::setting::formed_shards;
-use cs_base::{Config, MOST_WAITING, Memory, NodeId, Whole};
+use cs_base::{Config, MOST_WAITING, Memory, NodeId, Version, Whole};
 use cs_check::Archive;
 use cs_node_pool::{Counted, Pool};
 use cs_node_state::Ballot;
 use cs_table::Table;
-use cs_tx::{Action, Digest, Session, Vote};
+use cs_tx::{Digest, Entry, Session, Vote};
 use std::alloc::Global;
 use std::marker::Model;
 
@@ -88,6 +89,13 @@ impl Sbac {
         ensures { result.now ≡ self.now.config }
     {
         &self.config
+    }
+
+    /// The version of its entries.
+    pub fn version(&self) -> Version
+        ensures { result ≡ version_of self.now.config.version }
+    {
+        Version::of(self.config.version)
     }
 
     /// The name of the node.
@@ -184,12 +192,12 @@ impl Sbac {
         self.pool.locked(alloc)
     }
 
-    /// The entry that is due: the first decision of a locked session that the votes carry, or else
-    /// a vote on the first session that waits.
-    pub fn due(&self, alloc: Global) -> Result<Option<Action>, Memory>
+    /// The entry that is due: the decisions on locked sessions that the votes carry, and then votes
+    /// on those that wait, as many of these as an entry has room for: in version 1 the first.
+    pub fn due(&self, alloc: Global) -> Result<Option<Entry>, Memory>
         ensures entry { AtEverySetup self.now.config (λ setup.
             IfOk result (λ entry. entry ≡ due setup self.now.pool)) }
-        ensures fits { IfOk result DueFits }
+        ensures fits { IfOk result (DueFits (version_of self.now.config.version)) }
     {
         self.pool.due(alloc)
     }

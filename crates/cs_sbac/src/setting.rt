@@ -95,7 +95,7 @@ pub fn is_fit(
     Ok(anchor(session, config, shard).is_some())
 }
 
-/// The same of the session of an entry.
+/// The same of the session of an action.
 pub fn is_fit_entry(
     alloc: Global,
     config: &Config,

@@ -113,26 +113,30 @@ impl PlainPool {
             .count()
     }
 
-    fn decide_due(&self) -> Option<Due> {
+    fn decisions(&self, alloc: Global) -> Result<Vec<Due>, Memory> {
+        let mut decisions = Vec::new(alloc);
         for session in &self.sessions {
             if let (true, Some(vote)) = (session.locked, session.decision(self.f)) {
-                return Some(Due {
+                decisions.push(Due {
                     decision: Some(vote),
                     number: session.number,
-                });
+                })?;
             }
         }
-        None
+        Ok(decisions)
     }
 
-    pub fn due(&self) -> Option<Due> {
-        if let Some(due) = self.decide_due() {
-            return Some(due);
+    /// All that is due: the decisions, and then the votes.
+    pub fn due(&self, alloc: Global) -> Result<Vec<Due>, Memory> {
+        let mut due = self.decisions(alloc)?;
+        for session in &self.sessions {
+            if !session.locked {
+                due.push(Due {
+                    decision: None,
+                    number: session.number,
+                })?;
+            }
         }
-        let waiting = self.sessions.iter().find(|session| !session.locked)?;
-        Some(Due {
-            decision: None,
-            number: waiting.number,
-        })
+        Ok(due)
     }
 }

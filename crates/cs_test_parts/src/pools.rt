@@ -4,7 +4,9 @@ use cs_base::{Config, Memory, NodeId, Sequence};
 use cs_node_pool::Pool;
 use cs_node_state::{Ballot, Pooled};
 use cs_test_samples::{Draws, Transfer, coin};
-use cs_tx::{Action, Digest, Encoded, Session, Vote, concerned, session_digest, well_formed};
+use cs_tx::{
+    Action, Digest, Encoded, Entry, Session, Vote, concerned, session_digest, well_formed,
+};
 use std::alloc::Global;
 use std::process::Abort;
 use std::test::Fail;
@@ -110,33 +112,49 @@ fn leave(
     Ok(())
 }
 
-fn shown(entry: Action) -> Due {
-    match entry {
+fn shown(action: &Action) -> Due {
+    match action {
         Action::Prepare(session) => Due {
             decision: None,
             number: session.number,
         },
         Action::Decide(vote, session) => Due {
-            decision: Some(vote),
+            decision: Some(*vote),
             number: session.number,
         },
     }
 }
 
-/// Both say the same, and what is due.
+/// What the actions of an entry are.
+fn shown_all(alloc: Global, entry: Option<Entry>) -> Result<Vec<Due>, Memory> {
+    let mut due = Vec::new(alloc);
+    if let Some(entry) = entry {
+        for action in entry.actions.as_slice() {
+            due.push(shown(action))?;
+        }
+    }
+    Ok(due)
+}
+
+/// Both say the same, and what is due: in version 1 the first of it alone.
 fn are_alike(
     rt: &impl Abort,
     alloc: Global,
     pool: &Pool,
     plain: &PlainPool,
-) -> Result<Option<Due>, Fail> {
+) -> Result<Vec<Due>, Fail> {
     assert!(rt; pool.waiting()? == plain.waiting());
-    let due = pool.due(alloc)?;
-    if let Some(entry) = &due {
-        assert!(rt; pool.known(entry.session())?.is_some());
+    let entry = pool.due(alloc)?;
+    if let Some(entry) = &entry {
+        let first = entry.actions.as_slice().first().expect(rt, "an action");
+        assert!(rt; pool.known(first.session())?.is_some());
     }
-    let due = due.map(shown);
-    assert!(rt; due == plain.due());
+    let due = shown_all(alloc, entry)?;
+    let mut told = plain.due(alloc)?;
+    if pool.config().version == 1 {
+        told.truncate(1);
+    }
+    assert!(rt; due == told);
     Ok(due)
 }
 
@@ -180,8 +198,25 @@ impl Counts {
     }
 }
 
-fn run(rt: &impl Abort, alloc: Global, steps: u32) -> Result<Counts, Fail> {
-    let config = Config::new(2, 1, 0).expect(rt, "a configuration");
+/// Some of the sessions on which a decision is due are decided, and leave.
+fn decide_some(
+    rt: &impl Abort,
+    alloc: Global,
+    pool: &mut Pool,
+    plain: &mut PlainPool,
+    draws: &mut Draws,
+    due: &Vec<Due>,
+) -> Result<(), Fail> {
+    for told in due {
+        if told.decision.is_some() && draws.below(2) == 0 {
+            leave(rt, alloc, pool, plain, told.number)?;
+        }
+    }
+    Ok(())
+}
+
+fn run(rt: &impl Abort, alloc: Global, version: u8, steps: u32) -> Result<Counts, Fail> {
+    let config = Config::with_version(2, 1, 0, version).expect(rt, "a configuration");
     let mut pool = Pool::new(alloc, config);
     let mut plain = PlainPool::new(alloc, 1);
     let mut draws = Draws::new(1);
@@ -192,19 +227,25 @@ fn run(rt: &impl Abort, alloc: Global, steps: u32) -> Result<Counts, Fail> {
     };
     for _ in 0..steps {
         step(rt, alloc, &mut pool, &mut plain, &mut draws)?;
-        if let Some(due) = are_alike(rt, alloc, &pool, &plain)? {
-            counts.add(due);
-            if due.decision.is_some() && draws.below(2) == 0 {
-                leave(rt, alloc, &mut pool, &mut plain, due.number)?;
-            }
+        let due = are_alike(rt, alloc, &pool, &plain)?;
+        for told in &due {
+            counts.add(*told);
         }
+        decide_some(rt, alloc, &mut pool, &mut plain, &mut draws, &due)?;
     }
     Ok(counts)
 }
 
 #[test]
 fn two_thousand_calls_on_twelve_sessions(rt: HostRuntime) -> Result<(), Fail> {
-    let counts = run(&rt, rt.alloc(), 2000)?;
+    let counts = run(&rt, rt.alloc(), 1, 2000)?;
+    assert!(rt; counts.commits > 50 && counts.aborts > 50 && counts.votes > 50);
+    Ok(())
+}
+
+#[test]
+fn three_thousand_calls_where_all_that_is_due_is_told(rt: HostRuntime) -> Result<(), Fail> {
+    let counts = run(&rt, rt.alloc(), 2, 3000)?;
     assert!(rt; counts.commits > 50 && counts.aborts > 50 && counts.votes > 50);
     Ok(())
 }

@@ -14,7 +14,6 @@ use Rattle.cs_ledger.specs.Table.{Effect}
 use Rattle.cs_node_rules.specs.Signs.{Sign, Dropped, Took, Entered, Viewed, Did, Headed, Kept, Sent}
 use Rattle.cs_node_rules.specs.Site.{Mark, In, Ordered, Plain, Site, signs_of}
 use Rattle.cs_tx_types.specs.declared.action.Action.{Action}
-use Rattle.cs_node_state.specs.Setup.{actions_of}
 use Rattle.cs_node_law.specs.Made.{view_at, log_in, actions_in, NodeExecutes, AllMade}
 use Rattle.cs_world_law.specs.Worlds.{is_honest}
 use Rattle.cs_world_law.specs.Steps.{Run}
@@ -72,7 +71,7 @@ ComesBefore a b = (a.slot < b.slot) ⊎ ((a.slot ≡ b.slot) × (a.place < b.pla
 
 module _ {M : Type 0} (site : Site M) where
   abbrev pub size : Proposed → ℕ
-  size p = length (actions_of (site.entry_in p))
+  size p = length (site.entry_in p).actions
 
   -- the actions of the slots before this one
   abbrev pub front : List Proposed → ℕ → ℕ
@@ -82,11 +81,11 @@ module _ {M : Type 0} (site : Site M) where
   pub record IsPlaced (chosen : List Proposed) (number : ℕ) (run : Run) : Type 0 where
     pub proposed : Proposed
     pub there : slice_get chosen run.slot ≡ Some proposed
-    pub within : slice_get (actions_of (site.entry_in proposed)) run.place ≡ Some run.action
+    pub within : slice_get (site.entry_in proposed).actions run.place ≡ Some run.action
     pub number_is : number ≡ front chosen run.slot + run.place
 
   front-next : (p : Proposed) (chosen : List Proposed) (slot : ℕ) → front (p ∷ chosen) (suc slot) ≡ size p + front chosen slot
-  front-next p chosen slot = length-append (actions_of (site.entry_in p)) (actions_in site (take slot chosen))
+  front-next p chosen slot = length-append (site.entry_in p).actions (actions_in site (take slot chosen))
 
   -- so many actions stand before a slot that both have
   pub front-alike : (ps qs : List Proposed) → AreAlike ps qs → (slot : ℕ) (p q : Proposed) → slice_get ps slot ≡ Some p → slice_get qs slot ≡ Some q → front ps slot ≡ front qs slot
@@ -150,7 +149,7 @@ module _ {M : Type 0} (site : Site M) where
   pub placed-lower : (ps qs : List Proposed) → AreAlike ps qs → (k l : ℕ) (a b : Run) → IsPlaced ps k a → IsPlaced qs l b → ComesBefore a b → k < l
   placed-lower ps qs alike k l a b u v (inl less) =
       let most = front-later ps qs alike a.slot b.slot u.proposed v.proposed u.there v.there less in
-      let inside = got-below (actions_of (site.entry_in u.proposed)) a.place a.action u.within in
+      let inside = got-below (site.entry_in u.proposed).actions a.place a.action u.within in
       omega (arith, most, inside, u.number_is, v.number_is)
   placed-lower ps qs alike k l a b u v (inr same) =
       let at : slice_get ps b.slot ≡ Some u.proposed = ap (λ (n : ℕ). slice_get ps n) (sym same.0) ∙ u.there in
@@ -197,9 +196,9 @@ module _ {M : Type 0} (site : Site M) where
       | inl same ↦
           let at : slice_get ps b.slot ≡ Some u.proposed = ap (λ (n : ℕ). slice_get ps n) (sym same.0) ∙ u.there in
           let one : u.proposed ≡ v.proposed = alike b.slot u.proposed v.proposed at v.there in
-          let mine : slice_get (actions_of (site.entry_in v.proposed)) b.place ≡ Some a.action =
-          ap (λ (n : ℕ). slice_get (actions_of (site.entry_in v.proposed)) n) (sym same.1)
-          ∙ ap (λ (p : Proposed). slice_get (actions_of (site.entry_in p)) a.place) (sym one)
+          let mine : slice_get (site.entry_in v.proposed).actions b.place ≡ Some a.action =
+          ap (λ (n : ℕ). slice_get (site.entry_in v.proposed).actions n) (sym same.1)
+          ∙ ap (λ (p : Proposed). slice_get (site.entry_in p).actions a.place) (sym one)
           ∙ u.within in
           let both : Some a.action ≡ Some b.action = sym mine ∙ v.within in
           let action : a.action ≡ b.action = cc in

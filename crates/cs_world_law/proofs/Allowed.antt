@@ -7,6 +7,7 @@ use Rattle.cs_tx_types.specs.declared.session.Session.{Session}
 use Rattle.cs_tx_types.specs.declared.vote.Vote as Tx
 use Rattle.cs_tx_types.specs.declared.vote.Vote.TheVariants as tx
 use Rattle.cs_tx_types.specs.declared.action.Action.{Action}
+use Rattle.cs_tx_types.specs.declared.entry.Entry.{Entry}
 use Rattle.cs_tx_types.specs.declared.action.Action.TheVariants.{Prepare, Decide}
 use Rattle.cs_order.specs.declared.proposed.Proposed.{Proposed}
 use Rattle.cs_order.specs.Deeds.{Deed, Took_in, Advanced, Echoed, Proposing, Ticked, Resent, Replied, Cut, Member, chosen_in}
@@ -19,7 +20,7 @@ use Rattle.cs_ledger.specs.Table as Shard
 use Rattle.cs_ledger.specs.Table.{Effect}
 use Rattle.cs_ledger.specs.ShardWorld.{Step, shard_votes, IsAllowed, AllAllowed, sessions}
 use Rattle.cs_node_state.specs.declared.pooled.Pooled.{Pooled}
-use Rattle.cs_node_state.specs.Setup.{actions_of, Setup, digest_of, is_concerned_shard, concerned, is_fit, is_session_approved, entry_of}
+use Rattle.cs_node_state.specs.Setup.{Setup, digest_of, is_concerned_shard, concerned, is_fit, is_session_approved, entry_of}
 use Rattle.cs_tx_types.specs.Session.{session_in}
 use Rattle.cs_node_state.specs.Evidence.{has_support, is_decided}
 use Rattle.cs_node_state.specs.Pool.{found}
@@ -32,7 +33,6 @@ use Rattle.cs_node_law.proofs.Views.{me-same}
 use Rattle.cs_node_law.proofs.Silent.{voted-more}
 use Rattle.cs_node_law.proofs.Pools.{Place, IsSourced, found-in, pool-sourced}
 use Rattle.cs_node_law.proofs.Due.{IsDueFrom, due-from}
-use Rattle.cs_node_state.specs.laws.Actions.{each_action}
 use Rattle.cs_node_law.proofs.Actions.{got-in}
 use Rattle.cs_world_law.specs.Worlds.{is_honest}
 use Rattle.cs_world_law.specs.Chain.{Moment, trail_at, Known, Story, IsSoundSite, acts_at, shard_acts, firsts_at, story_firsts}
@@ -67,8 +67,8 @@ module _ {M : Type 0} (site : Site M) (sound : IsSoundSite site) (known : Known)
       (is_concerned_shard site.setup x shard ≡ true) × ((t : ℕ) × (is_concerned_shard site.setup x t ≡ true) × IsGiver site sound known story (digest_of site.setup x) Shard.Abort t)
 
   -- so it is of each action of an entry
-  abbrev AllBehind : List (Moment M) → ℕ → Action → Type 0
-  AllBehind story shard entry = (action : Action) → IsIn action (actions_of entry) → IsBehind story shard action
+  abbrev AllBehind : List (Moment M) → ℕ → Entry → Type 0
+  AllBehind story shard entry = (action : Action) → IsIn action entry.actions → IsBehind story shard action
 
   behind-later : (m : Moment M) (past : List (Moment M)) (shard : ℕ) (entry : Action) → IsBehind past shard entry → IsBehind (m ∷ past) shard entry
   behind-later m past shard (Prepare x) b = b
@@ -110,9 +110,9 @@ module _ {M : Type 0} (site : Site M) (sound : IsSoundSite site) (known : Known)
           let r = found-in (digest_of site.setup x) (view_at site j (trail_at j story)).bench.pool p is in
           decision-behind story j r.0 vote x story_is (sourced story j r.0 story_is r.1) (sym r.2) here (subst (λ (q : Pooled). is_decided site.setup.f (concerned site.setup x) vote q.ballots ≡ true) (sym r.3) h)
 
-  admits-behind : (story : List (Moment M)) (j : NodeId) (entry : Action) → Story site known story → admits site.setup j.shard (view_at site j (trail_at j story)).bench.pool entry ≡ true → AllBehind story j.shard entry
+  admits-behind : (story : List (Moment M)) (j : NodeId) (entry : Entry) → Story site known story → admits site.setup j.shard (view_at site j (trail_at j story)).bench.pool entry ≡ true → AllBehind story j.shard entry
   admits-behind story j entry story_is e action i =
-      action-behind story j action story_is (all-in (admits_action site.setup j.shard (view_at site j (trail_at j story)).bench.pool) (actions_of entry) e action i)
+      action-behind story j action story_is (all-in (admits_action site.setup j.shard (view_at site j (trail_at j story)).bench.pool) entry.actions e action i)
 
   -- what every honest node voted on is approved
   abbrev AllApproved : List (Moment M) → Type 0
@@ -152,11 +152,10 @@ module _ {M : Type 0} (site : Site M) (sound : IsSoundSite site) (known : Known)
       let v = view_at site node t in
       elim made as (λ z. AllBehind past node.shard (site.entry_in p)) [
         | inl due ↦
-            let d = due-from site.setup v.bench.pool due.entry due.due in
             let all = made-all site known node past story in
             let within = within-all site known node past story in
-            let read : due.entry ≡ site.entry_in p = sym (due-read site sound known node t due.entry all within (local site sound known node t all within) d) ∙ ap site.entry_in (sym due.is ∙ admitted) in
-            each_action (IsBehind past node.shard) (site.entry_in p) (subst (λ z. IsBehind past node.shard z) read (due-behind past node due.entry story approved honest d))
+            let read : due.entry ≡ site.entry_in p = sym (due-read site sound known node t due.entry all within (local site sound known node t all within) due.due) ∙ ap site.entry_in (sym due.is ∙ admitted) in
+            subst (λ z. AllBehind past node.shard z) read (λ action i. due-behind past node action story approved honest (due-from site.setup v.bench.pool due.entry due.due action i))
         | inr candidate ↦
             let at_me = subst (λ (n : NodeId). admits site.setup n.shard v.bench.pool (site.entry_in proposed) ≡ true) (me-same site node t) candidate.admitted in
             admits-behind past node (site.entry_in p) story (ap (λ z. admits site.setup node.shard v.bench.pool (site.entry_in z)) (sym admitted) ∙ at_me)
@@ -199,7 +198,7 @@ module _ {M : Type 0} (site : Site M) (sound : IsSoundSite site) (known : Known)
         let own = subst (λ (h : Member M). slice_get (chosen_in h.deeds) slot ≡ Some made.proposed) (member-is site node (trail_at node past)) made.chosen in
         let chosen = subst (λ ds. slice_get (chosen_in ds) slot ≡ Some made.proposed) (sym (deeds-same node.shard node.index past)) own in
         let admitted = law.admitted node.index slot made.proposed chosen in
-        admitted-behind node.shard past made.proposed story.1 approved admitted entry (got-in (actions_of (site.entry_in made.proposed)) place entry made.within)
+        admitted-behind node.shard past made.proposed story.1 approved admitted entry (got-in (site.entry_in made.proposed).actions place entry made.within)
 
     approved-step : (node : NodeId) (mark : Mark M) (past : List (Moment M)) (i : NodeId) (x : Session) → Story site known (record { node = node; mark = mark } ∷ past) → AllApproved past → is_honest site i ≡ true
         → HasVotedOn x (signs_of (mark ∷ trail_at i past)) → is_session_approved site.setup x ≡ true

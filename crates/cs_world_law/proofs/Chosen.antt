@@ -1,10 +1,10 @@
 -- Between its events a node has executed what its order chose, slot by slot, each action in its place.
-use Rattle.std.proofs.Common.{◌≡◌, ℕ, zero, suc, ◌+◌, List, [], ◌∷◌, ◌++◌, length, map, Some, refl, sym, ap, ◌∙◌, subst, arith, append_assoc}
+use Rattle.std.proofs.Common.{◌≡◌, ℕ, zero, suc, ◌+◌, ◌<◌, ◌==◌, Bool, true, false, if◌then◌else◌, List, [], ◌∷◌, ◌++◌, length, map, Some, refl, sym, ap, ◌∙◌, subst, arith, append_assoc}
 use Rattle.std.specs.Prelude.{slice_get, take}
-use Rattle.std.specs.List.{enumerate_from}
-use Rattle.std.proofs.lemmas.List.{append-nil, length-append, length_push, map-append, map_push}
+use Rattle.std.proofs.lemmas.List.{append-nil, length-append, length_push, map-append}
 use Rattle.cs_base.specs.declared.node_id.NodeId.{NodeId}
 use Rattle.cs_tx_types.specs.declared.action.Action.{Action}
+use Rattle.cs_tx_types.specs.declared.entry.Entry.{Entry}
 use Rattle.cs_order.specs.declared.proposed.Proposed.{Proposed}
 use Rattle.cs_order.specs.laws.Lists.{slice_get-left}
 use Rattle.cs_order.specs.declared.answers.Step.TheVariants.{Chosen, Moved, Quiet}
@@ -13,11 +13,10 @@ use Rattle.cs_node_rules.specs.Signs.{Dropped, Took, Entered, Viewed, Did, Heade
 use Rattle.cs_node_rules.specs.Site.{Mark, In, Ordered, Plain, Site, signs_of}
 use Rattle.cs_node_rules.specs.World.{Execution}
 use Rattle.cs_ledger.specs.Table.{Effect}
-use Rattle.cs_node_state.specs.Setup.{actions_of}
-use Rattle.cs_node_state.specs.laws.Actions.{one_action}
+use Rattle.cs_node_rules.proofs.Entries.{some-action}
 use Rattle.cs_node_law.specs.Made.{view_at, log_in, actions_in, NodeExecutes, AllMade, IsLevel}
 use Rattle.cs_world_law.specs.Steps.{executions_in, Run}
-use Rattle.cs_world_law.specs.Orders.{slots_with_entries, runs_done, runs_from, runs_of}
+use Rattle.cs_world_law.specs.Orders.{with_run, slots_done, proposed_in, runs_done, runs_from, runs_of}
 use Rattle.cs_world_law.specs.Chain.{Known, IsSoundSite}
 use Rattle.cs_world_law.proofs.Agree.{run_at, placed-now}
 use Rattle.cs_world_law.proofs.Logged.{executions-count}
@@ -60,11 +59,11 @@ chosen-more {M} (Cut slot) deeds = ([], sym (append-nil (chosen_in deeds)))
 
 -- ---- in their places
 
-runs-append : (slot : ℕ) (a b : List Action) → runs_of slot (a ++ b) ≡ runs_of slot a ++ runs_of (slot + length a) b
+runs-append : (slot : ℕ) (a b : List Entry) → runs_of slot (a ++ b) ≡ runs_of slot a ++ runs_of (slot + length a) b
 runs-append slot [] b = let e : slot ≡ slot + 0 = omega arith in ap (λ (n : ℕ). runs_of n b) e
 runs-append slot (entry ∷ a) b =
     let e : suc slot + length a ≡ slot + length (entry ∷ a) = omega arith in
-    let first = runs_from slot 0 (actions_of entry) in
+    let first = runs_from slot 0 entry.actions in
     ap (λ (l : List Run). first ++ l) (runs-append (suc slot) a b ∙ ap (λ (n : ℕ). runs_of (suc slot) a ++ runs_of n b) e)
     ∙ sym (append_assoc first (runs_of (suc slot) a) (runs_of (slot + length (entry ∷ a)) b))
 
@@ -93,7 +92,7 @@ module _ {M : Type 0} (site : Site M) where
   placed-count : (slot : ℕ) (chosen : List Proposed) → length (placed slot chosen) ≡ length (actions_in site chosen)
   placed-count slot [] = refl
   placed-count slot (p ∷ chosen) =
-      let actions = actions_of (site.entry_in p) in
+      let actions = (site.entry_in p).actions in
       omega (
         arith,
         length-append (runs_from slot 0 actions) (placed (suc slot) chosen),
@@ -104,19 +103,19 @@ module _ {M : Type 0} (site : Site M) where
 
   -- an action of what was chosen stands in its place, behind those of the entries before its own
   placed-got : (from slot place : ℕ) (chosen : List Proposed) (p : Proposed) (action : Action) → slice_get chosen slot ≡ Some p
-      → slice_get (actions_of (site.entry_in p)) place ≡ Some action → slice_get (placed from chosen) (length (actions_in site (take slot chosen)) + place) ≡ Some (run_at (from + slot) place action)
+      → slice_get (site.entry_in p).actions place ≡ Some action → slice_get (placed from chosen) (length (actions_in site (take slot chosen)) + place) ≡ Some (run_at (from + slot) place action)
   placed-got from slot place [] p action there within = absurd cc
   placed-got from zero place (q ∷ chosen) p action there within =
       let same : q ≡ p = cc in
       let none : 0 + place ≡ place = omega arith in
       let here : from ≡ from + 0 = omega arith in
-      let actions = actions_of (site.entry_in q) in
-      let inside = ap (λ (z : Proposed). slice_get (actions_of (site.entry_in z)) place) same ∙ within in
+      let actions = (site.entry_in q).actions in
+      let inside = ap (λ (z : Proposed). slice_get (site.entry_in z).actions place) same ∙ within in
       ap (λ (n : ℕ). slice_get (placed from (q ∷ chosen)) n) none
       ∙ slice_get-left (runs_from from 0 actions) (placed (suc from) chosen) place (run_at from (0 + place) action) (from-got from 0 place actions action inside)
       ∙ (λ i. Some (run_at (here i) (none i) action))
   placed-got from (suc slot) place (q ∷ chosen) p action there within =
-      let actions = actions_of (site.entry_in q) in
+      let actions = (site.entry_in q).actions in
       let first = runs_from from 0 actions in
       let rest = actions_in site (take slot chosen) in
       let behind : length (actions ++ rest) + place ≡ length first + (length rest + place) = omega (arith, length-append actions rest, from-count from 0 actions) in
@@ -150,7 +149,7 @@ module _ {M : Type 0} (site : Site M) (me : NodeId) where
       record {
         rest = f.rest ++ new;
         is = ap (λ (l : List Proposed). placed site 0 l) more.1
-            ∙ ap (λ (l : List Action). runs_of 0 l) (map-append site.entry_in (chosen_in (deeds_in t)) more.0)
+            ∙ ap (λ (l : List Entry). runs_of 0 l) (map-append site.entry_in (chosen_in (deeds_in t)) more.0)
             ∙ runs-append 0 before after
             ∙ ap (λ (l : List Run). l ++ new) f.is
             ∙ append_assoc (runs_done (Executions t)) f.rest new;
@@ -200,44 +199,80 @@ module _ {M : Type 0} (site : Site M) (me : NodeId) where
 
 -- ---- as it was proposed
 
-abbrev slot_action : Run → ℕ × Action
-slot_action run = (run.slot, run.action)
+abbrev Slots : Type 0
+Slots = List (ℕ × List Action)
 
-slots-done : (executions : List Execution) → slots_with_entries executions ≡ map slot_action (runs_done executions)
-slots-done [] = refl
-slots-done (e ∷ earlier) =
-    ap (λ (l : List (ℕ × Action)). l ++ (e.slot, e.entry) ∷ []) (slots-done earlier)
-    ∙ sym (map_push slot_action (runs_done earlier) (run_at e.slot e.place e.entry))
+-- one run after the other
+abbrev grouped : Slots → List Run → Slots
+grouped done [] = done
+grouped done (run ∷ more) = grouped (with_run run.slot run.action done) more
 
--- where each entry has one action, it is the entry of its slot
-one-each : (slot : ℕ) (entries : List Action) → map slot_action (runs_of slot entries) ≡ enumerate_from slot entries
-one-each slot [] = refl
-one-each slot (entry ∷ more) =
-    let one : runs_of slot (entry ∷ more) ≡ run_at slot 0 entry ∷ runs_of (suc slot) more = ap (λ (actions : List Action). runs_from slot 0 actions ++ runs_of (suc slot) more) (one_action entry) in
-    let next : suc slot ≡ slot + 1 = omega arith in
-    ap (λ (l : List Run). map slot_action l) one
-    ∙ ap (λ (l : List (ℕ × Action)). (slot, entry) ∷ l) (one-each (suc slot) more ∙ ap (λ (n : ℕ). enumerate_from n more) next)
+grouped-append : (done : Slots) (a b : List Run) → grouped done (a ++ b) ≡ grouped (grouped done a) b
+grouped-append done [] b = refl
+grouped-append done (run ∷ a) b = grouped-append (with_run run.slot run.action done) a b
 
--- what is read of an entry and proposed again is the entry
-again-map : {M : Type 0} (site : Site M) (from : ℕ) (chosen : List Proposed) → ((slot : ℕ) (p : Proposed) → slice_get chosen slot ≡ Some p → site.proposed_of (site.entry_in p) ≡ p)
-    → map (λ (run : ℕ × Action). site.proposed_of run.1) (enumerate_from from (map site.entry_in chosen)) ≡ chosen
-again-map {M} site from [] again = refl
-again-map {M} site from (p ∷ chosen) again =
-    let first = again 0 p refl in
-    let rest = again-map site (from + 1) chosen (λ slot q e. again (suc slot) q e) in
-    λ n. first n ∷ rest n
+slots-grouped : (executions : List Execution) → slots_done executions ≡ grouped [] (runs_done executions)
+slots-grouped [] = refl
+slots-grouped (e ∷ earlier) =
+    ap (with_run e.slot e.entry) (slots-grouped earlier)
+    ∙ sym (grouped-append [] (runs_done earlier) (run_at e.slot e.place e.entry ∷ []))
+
+-- further actions of the newest slot
+same-slot : (slot place : ℕ) (first more : List Action) (done : Slots) → grouped ((slot, first) ∷ done) (runs_from slot place more) ≡ (slot, first ++ more) ∷ done
+same-slot slot place first [] done = ap (λ (l : List Action). (slot, l) ∷ done) (sym (append-nil first))
+same-slot slot place first (action ∷ more) done =
+    let here : (slot == slot) ≡ true = grind arith in
+    let now : with_run slot action ((slot, first) ∷ done) ≡ (slot, first ++ action ∷ []) ∷ done =
+    ap (λ (b : Bool). if b then (slot, first ++ action ∷ []) ∷ done else (slot, action ∷ []) ∷ (slot, first) ∷ done) here in
+    ap (λ (d : Slots). grouped d (runs_from slot (suc place) more)) now
+    ∙ same-slot slot (suc place) (first ++ action ∷ []) more done
+    ∙ ap (λ (l : List Action). (slot, l) ∷ done) (append_assoc first (action ∷ []) more)
+
+-- all slots are below this one
+abbrev AreBelow : ℕ → Slots → Type 0
+AreBelow slot [] = Unit {0}
+AreBelow slot (s ∷ done) = s.0 < slot
+
+new-slot : (slot : ℕ) (action : Action) (done : Slots) → AreBelow slot done → with_run slot action done ≡ (slot, action ∷ []) ∷ done
+new-slot slot action [] below = refl
+new-slot slot action (s ∷ done) below =
+    let other : (s.0 == slot) ≡ false = grind (arith, below) in
+    ap (λ (b : Bool). if b then (s.0, s.1 ++ action ∷ []) ∷ done else (slot, action ∷ []) ∷ s ∷ done) other
+
+next-slots : (slot : ℕ) (actions : List Action) (done : Slots) → 0 < length actions → AreBelow slot done → grouped done (runs_from slot 0 actions) ≡ (slot, actions) ∷ done
+next-slots slot [] done some below = absurd (omega (arith, some))
+next-slots slot (action ∷ more) done some below =
+    ap (λ (d : Slots). grouped d (runs_from slot 1 more)) (new-slot slot action done below)
+    ∙ same-slot slot 1 (action ∷ []) more done
+
+module _ {M : Type 0} (site : Site M) (some : (p : Proposed) → 0 < length (site.entry_in p).actions) where
+  -- what is read of an entry and proposed again is the entry
+  abbrev Again : List Proposed → Type 0
+  Again chosen = (slot : ℕ) (p : Proposed) → slice_get chosen slot ≡ Some p → site.proposed_of (site.entry_in p) ≡ p
+
+  proposed-again : (slot : ℕ) (chosen : List Proposed) (done : Slots) → AreBelow slot done → Again chosen
+      → proposed_in site (grouped done (runs_of slot (map site.entry_in chosen))) ≡ proposed_in site done ++ chosen
+  proposed-again slot [] done below again = sym (append-nil (proposed_in site done))
+  proposed-again slot (p ∷ chosen) done below again =
+      let actions = (site.entry_in p).actions in
+      let rest = runs_of (suc slot) (map site.entry_in chosen) in
+      let now : Slots = (slot, actions) ∷ done in
+      let under : slot < suc slot = omega arith in
+      ap (proposed_in site) (grouped-append done (runs_from slot 0 actions) rest ∙ ap (λ (d : Slots). grouped d rest) (next-slots slot actions done (some p) below))
+      ∙ proposed-again (suc slot) chosen now under (λ n q e. again (suc n) q e)
+      ∙ append_assoc (proposed_in site done) (site.proposed_of (site.entry_in p) ∷ []) chosen
+      ∙ ap (λ (q : Proposed). proposed_in site done ++ (q ∷ chosen)) (again 0 p refl)
 
 module _ {M : Type 0} (site : Site M) (sound : IsSoundSite site) (known : Known) (me : NodeId) where
   pub executed-log : (t : List (Mark M)) → IsLevel site me t → AllWithin site known me t
-      → map (λ (run : ℕ × Action). site.proposed_of run.1) (slots_with_entries (executions_in me.shard (signs_of t))) ≡ chosen_in (view_at site me t).member.deeds
+      → proposed_in site (slots_done (executions_in me.shard (signs_of t))) ≡ chosen_in (view_at site me t).member.deeds
   executed-log t level within =
       let l = local site sound known me t level.made within in
-      let all : (slot : ℕ) (p : Proposed) → slice_get (chosen_in (view_at site me t).member.deeds) slot ≡ Some p → site.proposed_of (site.entry_in p) ≡ p =
+      let chosen = chosen_in (view_at site me t).member.deeds in
+      let all : (slot : ℕ) (p : Proposed) → slice_get chosen slot ≡ Some p → site.proposed_of (site.entry_in p) ≡ p =
       (λ slot p there.
       let k = chosen-listed site sound known me t slot p level.made l there in
       let reads : site.entry_in p ≡ k.entry = ap site.entry_in k.is ∙ sound.reads k.entry k.fits in
       ap site.proposed_of reads ∙ sound.proposes k.entry ∙ sym k.is) in
-      let slots = slots-done (executions_in me.shard (signs_of t))
-      ∙ ap (λ (l : List Run). map slot_action l) (executes-chosen site me t level)
-      ∙ one-each 0 (map site.entry_in (chosen_in (view_at site me t).member.deeds)) in
-      ap (map (λ (run : ℕ × Action). site.proposed_of run.1)) slots ∙ again-map site 0 (chosen_in (view_at site me t).member.deeds) all
+      ap (proposed_in site) (slots-grouped (executions_in me.shard (signs_of t)) ∙ ap (grouped []) (executes-chosen site me t level))
+      ∙ proposed-again site (λ p. some-action site.setup.version (site.entry_in p) (sound.read p)) 0 chosen [] tt all

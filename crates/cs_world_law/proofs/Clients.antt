@@ -46,7 +46,7 @@ module _ {M : Type 0} (site : Site M) (sound : IsSoundSite site) (known : Known)
   not-handed : {A : Type 0} (t : List (Mark M)) → AllMade site me t → AllWithin site known me t → IsHanded site to.index (message.Decided d accepted) (deeds_in t) → A
   not-handed t made within h =
       let l = local site sound known me t made within in
-      let entries = λ (p : Proposed) (j : IsIn p (held_in site.machine (deeds_in t))). let k = l.held p j in let e : IsEntry p = record { entry = k.entry; fits = k.fits; is = k.is } in e in
+      let entries = λ (p : Proposed) (j : IsIn p (held_in site.machine (deeds_in t))). let k = l.held p j in let e : IsEntry site.setup.version p = record { entry = k.entry; fits = k.fits; is = k.is } in e in
       let o = handed-is site sound me.index to.index (message.Decided d accepted) (deeds_in t) (deeds-kept site sound known me t made) entries h in
       absurd (let q : false ≡ true = o.ordering in cc)
 

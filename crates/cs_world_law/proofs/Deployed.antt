@@ -12,7 +12,7 @@ use Rattle.cs_base.specs.declared.node_id.NodeId.{NodeId}
 use Rattle.cs_base.specs.declared.node_id.TheConstants.{CLIENT_SHARD, CLIENTS}
 use Rattle.cs_base.specs.NodeId.{is_node, is_client}
 use Rattle.cs_base.specs.declared.config.Config.{Config}
-use Rattle.cs_base.proofs.Forms.{whole-again, some_is}
+use Rattle.cs_base.proofs.Forms.{some_is}
 use Rattle.cs_hash.specs.Hash.{hmac}
 use Rattle.cs_tx_value.specs.declared.object.Object.{Object}
 use Rattle.cs_tx_value.specs.Object.{object_encoding}
@@ -20,15 +20,15 @@ use Rattle.cs_tx_types.specs.declared.checkpoint.Checkpoint.{Checkpoint}
 use Rattle.cs_tx_types.specs.declared.trace.Trace.{Trace}
 use Rattle.cs_tx_types.specs.declared.transaction.Tx.{Tx}
 use Rattle.cs_tx_types.specs.declared.session.Session.{Session}
-use Rattle.cs_tx_types.specs.declared.action.Action.{Action}
-use Rattle.cs_tx_types.specs.Session.{SessionFits, action_encoding, ActionFits}
+use Rattle.cs_tx_types.specs.declared.entry.Entry.{Entry}
+use Rattle.cs_tx_types.specs.Session.{SessionFits}
+use Rattle.cs_tx_types.specs.Entry.{entry_encoding}
 use Rattle.cs_tx.specs.Digest.{digest_of_tx}
-use Rattle.cs_tx_types.specs.Reading.{action_at}
-use Rattle.cs_tx_types.specs.laws.Session.{action_form}
 use Rattle.cs_wire_message.specs.declared.kinds.TheConstants.{WANT, HEAD}
 use Rattle.cs_wire_message.specs.declared.message.Message.{Message}
 use Rattle.cs_wire_message.specs.declared.message.Message.TheVariants as message
-use Rattle.cs_base.specs.declared.version.Version.TheVariants.{One}
+use Rattle.cs_base.specs.declared.version.Version.{Version}
+use Rattle.cs_base.specs.Version.{version_of}
 use Rattle.cs_wire_message.specs.Message.{kind_of, body_of, MessageFits}
 use Rattle.cs_wire_message.specs.laws.Kinds.{kind_small}
 use Rattle.cs_wire_message.specs.Body.{message_whole}
@@ -42,7 +42,7 @@ use Rattle.cs_wire.specs.Datagram as wire
 use Rattle.cs_wire.specs.Heads.{head_at, first, head_seen}
 use Rattle.cs_wire.specs.Opens.{IsName, open_fault}
 use Rattle.cs_wire.specs.Opened.{Opened, said_by, opened_body, unless_fault, opened}
-use Rattle.cs_wire.proofs.Parts.{head_encoding, HeadFits, head_form, head_for, head_length, magic_bytes, text_parts, split}
+use Rattle.cs_wire.proofs.Parts.{head_encoding, HeadFits, head_form, head_for, head_length, magic_bytes, magic_four, text_parts, split}
 use Rattle.cs_wire.proofs.Masters.{sealed_is}
 use Rattle.cs_tx.specs.Sessions.{outputs_written_at, outputs_written, written_of, ledger_session}
 use Rattle.cs_tx.proofs.Faithful.{are-faithful}
@@ -56,11 +56,11 @@ use Rattle.cs_ledger.specs.Strings.{Origin, Output, WrittenSession, IsString, se
 use Rattle.cs_ledger.proofs.Basics.{in_either}
 use Rattle.cs_ledger.proofs.Strings.{no_collision}
 use Rattle.cs_node_rules.specs.Net.{Net, sealed_by_net}
-use Rattle.cs_node_rules.specs.Site.{Input, Datagram, Tick, Mark, In, Ordered, Plain, Carrier, Site}
+use Rattle.cs_node_rules.specs.Site.{Input, Datagram, Tick, Mark, In, Ordered, Plain, Carriers, Site}
 use Rattle.cs_node_rules.specs.World.{Happening, view_of, IsLife}
 use Rattle.cs_node_rules.specs.Collisions.{sessions_in, in_opened, known_sessions, known_entries, IsHashed, OfGenesis, OfSession, OfTransaction, OfOutput, OfEntry, NoCollision}
-use Rattle.cs_node_rules.specs.Carrying.{Carries}
-use Rattle.cs_node_rules.specs.Deployment.{entry_or_void}
+use Rattle.cs_node_rules.specs.Carrying.{AllCarry}
+use Rattle.cs_node_rules.proofs.Entries.{in-fits, in-again}
 use Rattle.cs_node_state.specs.Deployed.{genesis_from}
 use Rattle.cs_node_law.specs.Made.{InputFits}
 use Rattle.cs_node_law.specs.Given.{InputIsBytes, AreBytes}
@@ -87,22 +87,22 @@ no-fault (Some error) later sender said e = absurd cc
 no-fault None later sender said e = e
 
 -- a datagram that opens says what its body is
-opens-whole : (keys : Keys) (key : Bytes) (from to sender : NodeId) (m said : Message) → keys.version ≡ One → IsName from → IsName to → length (body_of One m) < 2 ^ 32 → opened keys (wire.sealed One key from to m) ≡ Ok (sender, said) → message_whole One (kind_of m) (body_of One m) ≡ Some said
-opens-whole keys key from to sender m said in_one of_from of_to short reads =
-    let h = head_for One from to m in
-    let body = body_of One m in
-    let text = message_text One from to m in
+opens-whole : (version : Version) (keys : Keys) (key : Bytes) (from to sender : NodeId) (m said : Message) → keys.version ≡ version → IsName from → IsName to → length (body_of version m) < 2 ^ 32 → opened keys (wire.sealed version key from to m) ≡ Ok (sender, said) → message_whole version (kind_of m) (body_of version m) ≡ Some said
+opens-whole version keys key from to sender m said edition of_from of_to short reads =
+    let h = head_for version from to m in
+    let body = body_of version m in
+    let text = message_text version from to m in
     let tag = hmac key text in
-    let bytes = wire.sealed One key from to m in
-    let fits : HeadFits h = ((refl, magic_bytes One), (kind_small m, (of_from, (of_to, short)))) in
-    let is : bytes ≡ (head_encoding h ++ body) ++ tag = ap (λ (t : Bytes). t ++ tag) (text_parts One from to m) in
-    let parts = split (head_encoding h) body tag bytes (head_length h refl) (length-sha256 _) is in
+    let bytes = wire.sealed version key from to m in
+    let fits : HeadFits h = ((magic_four version, magic_bytes version), (kind_small m, (of_from, (of_to, short)))) in
+    let is : bytes ≡ (head_encoding h ++ body) ++ tag = ap (λ (t : Bytes). t ++ tag) (text_parts version from to m) in
+    let parts = split (head_encoding h) body tag bytes (head_length h (magic_four version)) (length-sha256 _) is in
     let found : head_at bytes ≡ Some (h, body ++ tag) = ap head_at (is ∙ append_assoc (head_encoding h) body tag) ∙ head_form.again h (body ++ tag) fits in
     let seen : head_seen bytes ≡ Some h = ap first found in
-    let clear = no-fault (open_fault keys bytes) (opened_body One bytes (head_seen bytes)) sender said
-    (subst (λ v. unless_fault (open_fault keys bytes) (opened_body v bytes (head_seen bytes)) ≡ Ok (sender, said)) in_one reads) in
-    let here : said_by h.from (message_whole One h.kind (body_in bytes)) ≡ Ok (sender, said) = sym (ap (opened_body One bytes) seen) ∙ clear in
-    ap (message_whole One (kind_of m)) (sym parts.body) ∙ said-whole h.from sender said (message_whole One h.kind (body_in bytes)) here
+    let clear = no-fault (open_fault keys bytes) (opened_body version bytes (head_seen bytes)) sender said
+    (subst (λ v. unless_fault (open_fault keys bytes) (opened_body v bytes (head_seen bytes)) ≡ Ok (sender, said)) edition reads) in
+    let here : said_by h.from (message_whole version h.kind (body_in bytes)) ≡ Ok (sender, said) = sym (ap (opened_body version bytes) seen) ∙ clear in
+    ap (message_whole version (kind_of m)) (sym parts.body) ∙ said-whole h.from sender said (message_whole version h.kind (body_in bytes)) here
 
 want-of : (m : Message) → kind_of m ≡ WANT → (slot : ℕ) × (m ≡ message.Want slot)
 want-of (message.Want slot) e = (slot, refl)
@@ -136,15 +136,18 @@ no-client name shards few less =
     far : (shard shards : ℕ) → shards ≤ 16 → shard < shards → shard ≡ CLIENT_SHARD → ⊥
     far shard shards few less is = omega arith
 
-module _ {M : Type 0} (config : Config) (net : Net) (is_net : IsNet config net) (genesis : List Object) (approves : Tx → Bool) (machine : Machine M) (carrier : Carrier M) where
+module _ {M : Type 0} (config : Config) (net : Net) (is_net : IsNet config net) (genesis : List Object) (approves : Tx → Bool) (machine : Machine M) (carrier : Carriers M) where
   abbrev pub At : Site M
   At = deployed_site config net genesis approves machine carrier
 
+  abbrev edition : Version
+  edition = version_of config.version
+
   -- ---- what was given
 
-  pub opens-fit : (me sender : NodeId) (bytes : Bytes) (said : Message) → IsBytes bytes → At.net.opened me bytes ≡ Ok (sender, said) → MessageFits One said
+  pub opens-fit : (me sender : NodeId) (bytes : Bytes) (said : Message) → IsBytes bytes → At.net.opened me bytes ≡ Ok (sender, said) → MessageFits edition said
   opens-fit me sender bytes said fits reads =
-      subst (λ v. MessageFits v said) (is_net.version me) (opened-fits (is_net.keys me) bytes (sender, said) fits (sym (is_net.opens me bytes) ∙ reads))
+      subst (λ v. MessageFits v said) (is_net.editions me) (opened-fits (is_net.keys me) bytes (sender, said) fits (sym (is_net.opens me bytes) ∙ reads))
 
   input-fits : (me : NodeId) (input : Input) → InputIsBytes input → InputFits At me input
   input-fits me (Datagram bytes) fits = λ sender said reads. opens-fit me sender bytes said fits reads
@@ -159,7 +162,7 @@ module _ {M : Type 0} (config : Config) (net : Net) (is_net : IsNet config net) 
       ]
     where
       opens : (o : Opened) → (deployed_site config net genesis approves machine carrier).net.opened me bytes ≡ o → IsIn x (in_opened sessions_in o) → SessionFits x
-      opens (Ok said) is j = sessions-fit said.1 (fit.0 said.0 said.1 is) x j
+      opens (Ok said) is j = sessions-fit edition said.1 (fit.0 said.0 said.1 is) x j
       opens (Err error) is j = absurd j
   given-fits me (In Tick ∷ marks) x fit i = given-fits me marks x fit.1 i
   given-fits me (Ordered deed ∷ marks) x fit i = given-fits me marks x fit i
@@ -178,38 +181,41 @@ module _ {M : Type 0} (config : Config) (net : Net) (is_net : IsNet config net) 
   -- ---- the site
 
   -- what was sealed for a name, as its keys open it
-  opened-there : (from to sender : NodeId) (m said : Message) → At.net.opened to (sealed_by_net At.net from to m) ≡ Ok (sender, said) → opened (is_net.keys to) (wire.sealed One (is_net.key from to) from to m) ≡ Ok (sender, said)
+  opened-there : (from to sender : NodeId) (m said : Message) → At.net.opened to (sealed_by_net At.net from to m) ≡ Ok (sender, said) → opened (is_net.keys to) (wire.sealed edition (is_net.key from to) from to m) ≡ Ok (sender, said)
   opened-there from to sender m said reads =
-      ap (opened (is_net.keys to)) (sealed_is One (is_net.key from to) from to m ∙ sym (is_net.seals from to (kind_of m) (body_of One m)))
+      ap (opened (is_net.keys to))
+      (sealed_is edition (is_net.key from to) from to m ∙ sym (is_net.seals from to (kind_of m) (body_of edition m))
+      ∙ ap (λ (v : Version). At.net.datagram from to (kind_of m) (body_of v m)) (sym is_net.version))
       ∙ sym (is_net.opens to (sealed_by_net At.net from to m)) ∙ reads
 
-  pub is-sound : Law machine → Holds machine → Carries machine carrier → (world : List (Happening M)) → 0 < config.shards → config.shards ≤ 16 → config.f ≤ 5 → IsWorld At world → IsSoundSite At
+  pub is-sound : Law machine → Holds machine → AllCarry machine carrier → (world : List (Happening M)) → 0 < config.shards → config.shards ≤ 16 → config.f ≤ 5 → IsWorld At world → IsSoundSite At
   is-sound law holds carries world some few small w =
       let nodes = λ (name : NodeId) (e : is_honest At name ≡ true). node-of config name (is_net.nodes name e) in
       let names = λ (name : NodeId) (e : is_honest At name ≡ true). small-name name config.shards config.f few small (nodes name e).0 (nodes name e).1 in
       record {
         law = law;
         holds = holds;
-        carries = carries;
+        carries = carries edition;
         serves = w.serves;
         few = w.few;
         shard = λ name e. (nodes name e).0;
         index = λ name e. (let n = (nodes name e).1 in omega arith);
         apart = λ name e. no-client name config.shards few (nodes name e).0;
         exact = λ from to sender m said hf ht fits reads.
-            let whole = opens-whole (is_net.keys to) (is_net.key from to) from to sender m said (is_net.version to) (names from hf) (names to ht) (let s = body_short One m fits in omega (arith, s)) (opened-there from to sender m said reads) in
-            some_is said m (sym whole ∙ has_whole One (kind_of m) (body_of One m) m (record { kind = refl; body = refl; fits = fits }));
+            let whole = opens-whole edition (is_net.keys to) (is_net.key from to) from to sender m said (is_net.editions to) (names from hf) (names to ht) (let s = body_short edition m fits in omega (arith, s)) (opened-there from to sender m said reads) in
+            some_is said m (sym whole ∙ has_whole edition (kind_of m) (body_of edition m) m (record { kind = refl; body = refl; fits = fits }));
         wanted = λ from to sender slot said hf ht reads.
             let m = message.Want slot in
-            let whole = opens-whole (is_net.keys to) (is_net.key from to) from to sender m said (is_net.version to) (names from hf) (names to ht) (omega arith) (opened-there from to sender m said reads) in
-            want-of said (whole_has One 8 (to_be_bytes w64 slot) said (bytes-want One slot) whole).kind;
+            let whole = opens-whole edition (is_net.keys to) (is_net.key from to) from to sender m said (is_net.editions to) (names from hf) (names to ht) (omega arith) (opened-there from to sender m said reads) in
+            want-of said (whole_has edition 8 (to_be_bytes w64 slot) said (bytes-want edition slot) whole).kind;
         headed = λ from to sender c said hf ht digests reads.
             let m = message.Head c in
-            let short : length (body_of One m) < 2 ^ 32 = (let all = length-head c digests in omega (arith, all)) in
-            let whole = opens-whole (is_net.keys to) (is_net.key from to) from to sender m said (is_net.version to) (names from hf) (names to ht) short (opened-there from to sender m said reads) in
-            head-of said (whole_has One 12 (body_of One m) said (bytes-head c digests) whole).kind;
+            let short : length (body_of edition m) < 2 ^ 32 = (let all = length-head edition c digests in omega (arith, all)) in
+            let whole = opens-whole edition (is_net.keys to) (is_net.key from to) from to sender m said (is_net.editions to) (names from hf) (names to ht) short (opened-there from to sender m said reads) in
+            head-of said (whole_has edition 12 (body_of edition m) said (bytes-head edition c digests) whole).kind;
         proposes = λ entry. refl;
-        reads = λ entry fits. ap entry_or_void (whole-again action_encoding ActionFits action_at action_form entry fits);
+        reads = λ entry fits. in-again edition entry fits;
+        read = λ p. in-fits edition p;
         bound = λ name. mod_below _ config.shards some;
       }
 
@@ -278,9 +284,9 @@ module _ {M : Type 0} (config : Config) (net : Net) (is_net : IsNet config net) 
   written-from (x ∷ known) w (inl e) = (x, inl refl, e)
   written-from (x ∷ known) w (inr i) = let r = written-from known w i in (r.0, inr r.1, r.2)
 
-  module _ (known : List Session) (entries : List Action) where
+  module _ (known : List Session) (entries : List Entry) where
     abbrev Hashed : Bytes → Type 0
-    Hashed string = IsHashed genesis known entries string
+    Hashed string = IsHashed edition genesis known entries string
 
     string-hashed : (string : Bytes) → IsString sha256 (origins 0 genesis) (map (written_of approves) known) string → Hashed string
     string-hashed string (Strings.Genesis origin i) =
@@ -315,7 +321,7 @@ module _ {M : Type 0} (config : Config) (net : Net) (is_net : IsNet config net) 
       (subst (λ (l : List Seen.Session). World.AreNamedApart (Strings.genesis_of_origins sha256 (origins 0 genesis)) l) (sessions-are known) none)
 
   -- no two known entries have one digest
-  pub are-unique : (world : List (Happening M)) → NoCollision At genesis world → IsUnique (known_entries At world)
+  pub are-unique : (world : List (Happening M)) → NoCollision At genesis world → IsUnique edition (known_entries At world)
   are-unique world apart a b i j e =
-      let one : 69 ∷ action_encoding a ≡ 69 ∷ action_encoding b = apart (69 ∷ action_encoding a) (69 ∷ action_encoding b) (OfEntry a i) (OfEntry b j) e in
+      let one : 69 ∷ entry_encoding edition a ≡ 69 ∷ entry_encoding edition b = apart (69 ∷ entry_encoding edition a) (69 ∷ entry_encoding edition b) (OfEntry a i) (OfEntry b j) e in
       cc

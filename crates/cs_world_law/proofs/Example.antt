@@ -36,7 +36,6 @@ use Rattle.cs_order_rules.specs.Facts.{Sight, open_slot, echo_said, confirm_said
 use Rattle.cs_order_rules.specs.Rules.{own, seen_now, to_all}
 use Rattle.cs_order_rules.specs.Slot.{votes}
 use Rattle.cs_order_rules.specs.SlotMachine.{slot_machine, sight}
-use Rattle.cs_node_state.specs.Setup.{actions_of}
 use Rattle.cs_node_rules.specs.Deployment.{no_session}
 use Rattle.cs_node_rules.specs.Net.{Net, sealed_by_net}
 use Rattle.cs_node_rules.specs.Members.{others}
@@ -68,7 +67,7 @@ split = record {
   approved = true;
 }
 
--- an entry comes to two numbers, which are filled up to a digest
+-- an entry of one action comes to two numbers, which are filled up to a digest
 abbrev bytes_of : Action → Bytes
 bytes_of (Prepare x) = 0 ∷ x.number ∷ []
 bytes_of (Decide Commit x) = 1 ∷ x.number ∷ []
@@ -127,20 +126,22 @@ opened_as _ = Err error.Short
 abbrev pub site : Site OrderMessage
 site = record {
   setup = record {
+    version = One;
     shards = 1;
     f = 1;
     rules = record { shard_of = λ name. 0; genesis = coin 1 5 ∷ []; dummies = 0; dummy_object = [] };
     session_of = λ x. record { digest = x.number ∷ []; transaction = split; dummies = [] };
   };
   net = record {
+    version = One;
     datagram = datagram;
     opened = λ name bytes. opened_as bytes;
     is_honest = λ name. (name.shard == 0) && nat_lt name.index 3;
   };
   machine = slot_machine;
   carrier = record { written = written; read = heard };
-  proposed_of = proposed;
-  entry_in = λ p. entry_of_bytes p.bytes;
+  proposed_of = λ entry. proposed (alone entry.actions);
+  entry_in = λ p. entry_alone (entry_of_bytes p.bytes);
 }
 
 -- what a name says to a member
@@ -249,51 +250,51 @@ IsRuled [] = Unit {0}
 IsRuled (h ∷ past) = h.marks ≡ event_marks site (view_of site past h.node) h.input
 
 pub rules_submitted : IsRuled submitted
-unfolding actions_of event_marks settled count_below any_below first_below last_below last_found upto_at many_at some_at pair_at tested_at within_at kinds_at front_at back_at trace_at tx_at session_at propose_at step_at voted_at flag_at
+unfolding event_marks settled count_below any_below first_below last_below last_found upto_at many_at some_at pair_at tested_at within_at kinds_at front_at back_at trace_at tx_at session_at propose_at step_at voted_at flag_at
 rules_submitted = refl
 
 pub rules_echoed_1 : IsRuled echoed_1
-unfolding actions_of event_marks settled count_below any_below first_below last_below last_found upto_at many_at some_at pair_at tested_at within_at kinds_at front_at back_at trace_at tx_at session_at propose_at step_at voted_at flag_at
+unfolding event_marks settled count_below any_below first_below last_below last_found upto_at many_at some_at pair_at tested_at within_at kinds_at front_at back_at trace_at tx_at session_at propose_at step_at voted_at flag_at
 rules_echoed_1 = refl
 
 pub rules_echoed_2 : IsRuled echoed_2
-unfolding actions_of event_marks settled count_below any_below first_below last_below last_found upto_at many_at some_at pair_at tested_at within_at kinds_at front_at back_at trace_at tx_at session_at propose_at step_at voted_at flag_at
+unfolding event_marks settled count_below any_below first_below last_below last_found upto_at many_at some_at pair_at tested_at within_at kinds_at front_at back_at trace_at tx_at session_at propose_at step_at voted_at flag_at
 rules_echoed_2 = refl
 
 rules_one_echo : IsRuled one_echo
-unfolding actions_of event_marks settled count_below any_below first_below last_below last_found upto_at many_at some_at pair_at tested_at within_at kinds_at front_at back_at trace_at tx_at session_at propose_at step_at voted_at flag_at
+unfolding event_marks settled count_below any_below first_below last_below last_found upto_at many_at some_at pair_at tested_at within_at kinds_at front_at back_at trace_at tx_at session_at propose_at step_at voted_at flag_at
 rules_one_echo = refl
 
 rules_confirmed_0 : IsRuled confirmed_0
-unfolding actions_of event_marks settled count_below any_below first_below last_below last_found upto_at many_at some_at pair_at tested_at within_at kinds_at front_at back_at trace_at tx_at session_at propose_at step_at voted_at flag_at
+unfolding event_marks settled count_below any_below first_below last_below last_found upto_at many_at some_at pair_at tested_at within_at kinds_at front_at back_at trace_at tx_at session_at propose_at step_at voted_at flag_at
 rules_confirmed_0 = refl
 
 rules_other_echo : IsRuled other_echo
-unfolding actions_of event_marks settled count_below any_below first_below last_below last_found upto_at many_at some_at pair_at tested_at within_at kinds_at front_at back_at trace_at tx_at session_at propose_at step_at voted_at flag_at
+unfolding event_marks settled count_below any_below first_below last_below last_found upto_at many_at some_at pair_at tested_at within_at kinds_at front_at back_at trace_at tx_at session_at propose_at step_at voted_at flag_at
 rules_other_echo = refl
 
 rules_confirmed_1 : IsRuled confirmed_1
-unfolding actions_of event_marks settled count_below any_below first_below last_below last_found upto_at many_at some_at pair_at tested_at within_at kinds_at front_at back_at trace_at tx_at session_at propose_at step_at voted_at flag_at
+unfolding event_marks settled count_below any_below first_below last_below last_found upto_at many_at some_at pair_at tested_at within_at kinds_at front_at back_at trace_at tx_at session_at propose_at step_at voted_at flag_at
 rules_confirmed_1 = refl
 
 rules_one_confirm : IsRuled one_confirm
-unfolding actions_of event_marks settled count_below any_below first_below last_below last_found upto_at many_at some_at pair_at tested_at within_at kinds_at front_at back_at trace_at tx_at session_at propose_at step_at voted_at flag_at
+unfolding event_marks settled count_below any_below first_below last_below last_found upto_at many_at some_at pair_at tested_at within_at kinds_at front_at back_at trace_at tx_at session_at propose_at step_at voted_at flag_at
 rules_one_confirm = refl
 
 rules_voted_0 : IsRuled voted_0
-unfolding actions_of event_marks settled count_below any_below first_below last_below last_found upto_at many_at some_at pair_at tested_at within_at kinds_at front_at back_at trace_at tx_at session_at propose_at step_at voted_at flag_at
+unfolding event_marks settled count_below any_below first_below last_below last_found upto_at many_at some_at pair_at tested_at within_at kinds_at front_at back_at trace_at tx_at session_at propose_at step_at voted_at flag_at
 rules_voted_0 = refl
 
 rules_other_confirm : IsRuled other_confirm
-unfolding actions_of event_marks settled count_below any_below first_below last_below last_found upto_at many_at some_at pair_at tested_at within_at kinds_at front_at back_at trace_at tx_at session_at propose_at step_at voted_at flag_at
+unfolding event_marks settled count_below any_below first_below last_below last_found upto_at many_at some_at pair_at tested_at within_at kinds_at front_at back_at trace_at tx_at session_at propose_at step_at voted_at flag_at
 rules_other_confirm = refl
 
 rules_voted_1 : IsRuled voted_1
-unfolding actions_of event_marks settled count_below any_below first_below last_below last_found upto_at many_at some_at pair_at tested_at within_at kinds_at front_at back_at trace_at tx_at session_at propose_at step_at voted_at flag_at
+unfolding event_marks settled count_below any_below first_below last_below last_found upto_at many_at some_at pair_at tested_at within_at kinds_at front_at back_at trace_at tx_at session_at propose_at step_at voted_at flag_at
 rules_voted_1 = refl
 
 rules_decided : IsRuled decided
-unfolding actions_of event_marks settled count_below any_below first_below last_below last_found upto_at many_at some_at pair_at tested_at within_at kinds_at front_at back_at trace_at tx_at session_at propose_at step_at voted_at flag_at
+unfolding event_marks settled count_below any_below first_below last_below last_found upto_at many_at some_at pair_at tested_at within_at kinds_at front_at back_at trace_at tx_at session_at propose_at step_at voted_at flag_at
 rules_decided = refl
 
 life : IsLife site decided
@@ -308,7 +309,7 @@ abbrev sight_at : ℕ → Happenings → Sight
 sight_at index world = sight (view_at index world).member
 
 may_echo : MayBeEchoed (admits_proposed site (view_at 1 echoed_1)) (sight_at 1 echoed_1) (proposed vote)
-unfolding actions_of count_below any_below first_below last_below last_found
+unfolding count_below any_below first_below last_below last_found
 may_echo = record {
   proposed = refl;
   admitted = refl;
@@ -390,7 +391,7 @@ all_bytes : are_of_bytes decided ≡ true
 all_bytes = refl
 
 all_genuine : are_genuine site.net decided ≡ true
-unfolding actions_of event_marks settled count_below any_below first_below last_below last_found upto_at many_at some_at pair_at tested_at within_at kinds_at front_at back_at trace_at tx_at session_at propose_at step_at voted_at flag_at
+unfolding event_marks settled count_below any_below first_below last_below last_found upto_at many_at some_at pair_at tested_at within_at kinds_at front_at back_at trace_at tx_at session_at propose_at step_at voted_at flag_at
 all_genuine = refl
 
 world : IsWorld site decided

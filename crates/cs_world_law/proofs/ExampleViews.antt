@@ -19,7 +19,6 @@ use Rattle.cs_order_rules.specs.declared.message.OrderMessage.{OrderMessage}
 use Rattle.cs_order_rules.specs.declared.message.OrderMessage.TheVariants as order
 use Rattle.cs_order_rules.specs.Facts.{open_slot}
 use Rattle.cs_order_rules.specs.Rules.{free, to_all}
-use Rattle.cs_node_state.specs.Setup.{actions_of}
 use Rattle.cs_node_rules.specs.Members.{others}
 use Rattle.cs_node_rules.specs.Signs.{Entered, Viewed, sends}
 use Rattle.cs_node_rules.specs.Site.{Tick, Ordered, Plain, plain}
@@ -27,7 +26,7 @@ use Rattle.cs_node_rules.specs.Trail.{handed, admits_proposed, event_marks, sett
 use Rattle.cs_node_rules.specs.World.{Happening, IsLife}
 use Rattle.cs_world_law.specs.Worlds.{IsWorld}
 use Rattle.cs_world_law.specs.Shown.{executed_by}
-use Rattle.cs_world_law.specs.Orders.{slots_with_entries}
+use Rattle.cs_world_law.specs.Orders.{slots_done}
 use Rattle.cs_world_law.specs.Agreement.{MayBeEchoed, sight_at}
 use Rattle.cs_world_law.proofs.Example.{Marks, Happenings, session, proposed, written, member, client, site, said, does, event, takes, vote, echoed_2, voted_1, view_at, IsRuled, rules_submitted, rules_echoed_1, rules_echoed_2, few, are_honest, honest-so, are_of_bytes, bytes-so, are_genuine, genuine-so}
 
@@ -161,43 +160,43 @@ echoed_again = hears 1 2 (propose_in 2) (does 1 (Echoed (to_all (echo_in 2)))) �
 -- ---- each member keeps the rules
 
 rules_submitted_1 : IsRuled submitted_1
-unfolding actions_of event_marks settled count_below any_below first_below last_below last_found upto_at many_at some_at pair_at tested_at within_at kinds_at front_at back_at trace_at tx_at session_at propose_at step_at voted_at flag_at
+unfolding event_marks settled count_below any_below first_below last_below last_found upto_at many_at some_at pair_at tested_at within_at kinds_at front_at back_at trace_at tx_at session_at propose_at step_at voted_at flag_at
 rules_submitted_1 = refl
 
 life_waited_0 : IsLife site waited_0
-unfolding actions_of event_marks settled count_below any_below first_below last_below last_found
+unfolding event_marks settled count_below any_below first_below last_below last_found
 life_waited_0 = (refl, (refl, (refl, (refl, (refl, (refl, (refl, (rules_submitted_1, (rules_echoed_2, (rules_echoed_1, (rules_submitted, tt)))))))))))
 
 rules_entered_1 : IsRuled entered_1
-unfolding actions_of event_marks settled count_below any_below first_below last_below last_found
+unfolding event_marks settled count_below any_below first_below last_below last_found
 rules_entered_1 = refl
 
 rules_one_change : IsRuled one_change
-unfolding actions_of event_marks settled count_below any_below first_below last_below last_found upto_at pair_at tested_at kinds_at claim_at claimed_at rising_at
+unfolding event_marks settled count_below any_below first_below last_below last_found upto_at pair_at tested_at kinds_at claim_at claimed_at rising_at
 rules_one_change = refl
 
 rules_led_1 : IsRuled led_1
-unfolding actions_of event_marks settled count_below any_below first_below last_below last_found upto_at pair_at tested_at kinds_at claim_at claimed_at rising_at
+unfolding event_marks settled count_below any_below first_below last_below last_found upto_at pair_at tested_at kinds_at claim_at claimed_at rising_at
 rules_led_1 = refl
 
 life_changed_2 : IsLife site changed_2
-unfolding actions_of event_marks settled count_below any_below first_below last_below last_found upto_at pair_at tested_at kinds_at claim_at claimed_at rising_at
+unfolding event_marks settled count_below any_below first_below last_below last_found upto_at pair_at tested_at kinds_at claim_at claimed_at rising_at
 life_changed_2 = (refl, (refl, (rules_led_1, (rules_one_change, (rules_entered_1, life_waited_0)))))
 
 rules_echoed_twice : IsRuled echoed_twice
-unfolding actions_of event_marks settled count_below any_below first_below last_below last_found upto_at many_at some_at pair_at tested_at within_at kinds_at front_at back_at trace_at tx_at session_at propose_at step_at voted_at flag_at
+unfolding event_marks settled count_below any_below first_below last_below last_found upto_at many_at some_at pair_at tested_at within_at kinds_at front_at back_at trace_at tx_at session_at propose_at step_at voted_at flag_at
 rules_echoed_twice = refl
 
 rules_one_echo_1 : IsRuled one_echo_1
-unfolding actions_of event_marks settled count_below any_below first_below last_below last_found upto_at pair_at tested_at step_at
+unfolding event_marks settled count_below any_below first_below last_below last_found upto_at pair_at tested_at step_at
 rules_one_echo_1 = refl
 
 rules_confirmed_alone : IsRuled confirmed_alone
-unfolding actions_of event_marks settled count_below any_below first_below last_below last_found upto_at pair_at tested_at step_at
+unfolding event_marks settled count_below any_below first_below last_below last_found upto_at pair_at tested_at step_at
 rules_confirmed_alone = refl
 
 life_waited_1 : IsLife site waited_1
-unfolding actions_of event_marks settled count_below any_below first_below last_below last_found
+unfolding event_marks settled count_below any_below first_below last_below last_found
 life_waited_1 = (
   refl,
   (
@@ -246,27 +245,27 @@ life_waited_1 = (
 )
 
 rules_entered_2 : IsRuled entered_2
-unfolding actions_of event_marks settled count_below any_below first_below last_below last_found
+unfolding event_marks settled count_below any_below first_below last_below last_found
 rules_entered_2 = refl
 
 rules_one_change_2 : IsRuled one_change_2
-unfolding actions_of event_marks settled count_below any_below first_below last_below last_found upto_at pair_at tested_at kinds_at claim_at claimed_at rising_at
+unfolding event_marks settled count_below any_below first_below last_below last_found upto_at pair_at tested_at kinds_at claim_at claimed_at rising_at
 rules_one_change_2 = refl
 
 rules_followed : IsRuled followed
-unfolding actions_of event_marks settled count_below any_below first_below last_below last_found upto_at pair_at tested_at kinds_at claim_at claimed_at rising_at
+unfolding event_marks settled count_below any_below first_below last_below last_found upto_at pair_at tested_at kinds_at claim_at claimed_at rising_at
 rules_followed = refl
 
 rules_two_changes : IsRuled two_changes
-unfolding actions_of event_marks settled count_below any_below first_below last_below last_found upto_at pair_at tested_at kinds_at claim_at claimed_at rising_at
+unfolding event_marks settled count_below any_below first_below last_below last_found upto_at pair_at tested_at kinds_at claim_at claimed_at rising_at
 rules_two_changes = refl
 
 rules_led_2 : IsRuled led_2
-unfolding actions_of event_marks settled count_below any_below first_below last_below last_found upto_at pair_at tested_at kinds_at claim_at claimed_at rising_at
+unfolding event_marks settled count_below any_below first_below last_below last_found upto_at pair_at tested_at kinds_at claim_at claimed_at rising_at
 rules_led_2 = refl
 
 rules_echoed_again : IsRuled echoed_again
-unfolding actions_of event_marks settled count_below any_below first_below last_below last_found upto_at many_at some_at pair_at tested_at within_at kinds_at front_at back_at trace_at tx_at session_at propose_at step_at voted_at flag_at
+unfolding event_marks settled count_below any_below first_below last_below last_found upto_at many_at some_at pair_at tested_at within_at kinds_at front_at back_at trace_at tx_at session_at propose_at step_at voted_at flag_at
 rules_echoed_again = refl
 
 life : IsLife site echoed_again
@@ -291,12 +290,12 @@ life = (
 
 -- the view isn't free, since one of three changes has a pair
 not_free : free (sight_at site echoed_again (member 1)) ≡ false
-unfolding actions_of count_below any_below first_below last_below last_found
+unfolding count_below any_below first_below last_below last_found
 not_free = refl
 
 -- so the digest is safe by the other case: at view 1 each of the three has no pair, or this one, and two echoed it
 may_echo_again : MayBeEchoed (admits_proposed site (view_at 1 echoed_again)) (sight_at site echoed_again (member 1)) (proposed second)
-unfolding actions_of count_below any_below first_below last_below last_found
+unfolding count_below any_below first_below last_below last_found
 may_echo_again = record {
   proposed = refl;
   admitted = refl;
@@ -307,7 +306,7 @@ may_echo_again = record {
 
 -- ---- in the world before, the open slot is the next to execute
 
-has_executed : slots_with_entries (executed_by (member 1) voted_1) ≡ (0, vote) ∷ []
+has_executed : slots_done (executed_by (member 1) voted_1) ≡ (0, vote ∷ []) ∷ []
 has_executed = refl
 
 is_next : open_slot (sight_at site voted_1 (member 1)) ≡ 1
@@ -322,7 +321,7 @@ all_bytes : are_of_bytes echoed_again ≡ true
 all_bytes = refl
 
 all_genuine : are_genuine site.net echoed_again ≡ true
-unfolding actions_of event_marks settled count_below any_below first_below last_below last_found upto_at many_at some_at pair_at tested_at within_at kinds_at front_at back_at trace_at tx_at session_at propose_at step_at voted_at flag_at claim_at claimed_at rising_at
+unfolding event_marks settled count_below any_below first_below last_below last_found upto_at many_at some_at pair_at tested_at within_at kinds_at front_at back_at trace_at tx_at session_at propose_at step_at voted_at flag_at claim_at claimed_at rising_at
 all_genuine = refl
 
 world : IsWorld site echoed_again

@@ -8,7 +8,7 @@ use Rattle.cs_tx_types.specs.declared.action.Action.{Action}
 use Rattle.cs_ledger.specs.Ledger.{Bytes}
 use Rattle.cs_ledger.specs.Table.{Vote, Effect}
 use Rattle.cs_ledger.specs.ShardWorld.{log, votes_in}
-use Rattle.cs_node_state.specs.Setup.{Setup, actions_of, entry_of}
+use Rattle.cs_node_state.specs.Setup.{Setup, entry_of}
 use Rattle.cs_order.specs.declared.proposed.Proposed.{Proposed}
 use Rattle.cs_order.specs.Deeds.{chosen_in}
 use Rattle.cs_node_rules.specs.Signs.{Sign, Dropped, Took, Entered, Viewed, Did, Headed, Kept, Sent}
@@ -366,7 +366,7 @@ module _ {M : Type 0} (site : Site M) (sound : IsSoundSite site) (known : Known)
           let there : Follows n p (Some e) = elim (placed-before site (Order known_is.by) Chosen known_is.alike (length rest) Before (run_of e) Here u placed-here (omega (arith, next))) [
             | inl less ↦
                 let apart = front-apart site (Order known_is.by) Chosen known_is.alike some e.slot n u.proposed placed-here.proposed u.there placed-here.there less in
-                let inside = got-below (actions_of (site.entry_in u.proposed)) e.place e.entry u.within in
+                let inside = got-below (site.entry_in u.proposed).actions e.place e.entry u.within in
                 let slot : n ≡ suc e.slot = omega (arith, apart, inside, next, less, u.number_is, placed-here.number_is) in
                 let place : p ≡ 0 = omega (arith, apart, inside, next, less, u.number_is, placed-here.number_is) in
                 inr (slot, place)

@@ -6,6 +6,7 @@ use Rattle.cs_base.specs.declared.node_id.NodeId.{NodeId}
 use Rattle.cs_tx_types.specs.declared.session.Session.{Session}
 use Rattle.cs_tx_types.specs.declared.vote.Vote.TheVariants as tx
 use Rattle.cs_tx_types.specs.declared.action.Action.{Action}
+use Rattle.cs_tx_types.specs.declared.entry.Entry.{Entry}
 use Rattle.cs_tx_types.specs.declared.action.Action.TheVariants.{Prepare}
 use Rattle.cs_wire_message.specs.declared.message.Message.{Message}
 use Rattle.cs_wire_message.specs.declared.message.Message.TheVariants as message
@@ -19,7 +20,7 @@ use Rattle.cs_ledger.specs.Table as Shard
 use Rattle.cs_ledger.specs.Table.{Table, Outcome}
 use Rattle.cs_ledger.proofs.Basics.{bytes_refl, first_is, anchor_used, in_left, in_right}
 use Rattle.cs_ledger.proofs.States.{ready_at}
-use Rattle.cs_node_state.specs.Setup.{actions_of, concerned, is_fit}
+use Rattle.cs_node_state.specs.Setup.{concerned, is_fit}
 use Rattle.cs_tx_types.specs.Session.{session_in}
 use Rattle.cs_node_rules.specs.Members.{others}
 use Rattle.cs_node_state.specs.Bench.{is_locked_at, is_locked, executed, told_by, vote_told}
@@ -29,7 +30,6 @@ use Rattle.cs_node_rules.specs.Ready.{bench_at, Executed, VotesFree}
 use Rattle.cs_node_law.specs.Made.{view_at, AllMade}
 use Rattle.cs_node_law.proofs.Views.{me-same}
 use Rattle.cs_node_law.proofs.Actions.{got-in}
-use Rattle.cs_node_state.specs.laws.Actions.{each_action}
 use Rattle.cs_node_law.proofs.Pools.{IsSourced, pool-sourced}
 use Rattle.cs_node_law.proofs.Due.{due-from}
 use Rattle.cs_world_law.specs.Worlds.{is_honest}
@@ -90,8 +90,8 @@ module _ {M : Type 0} (site : Site M) (sound : IsSoundSite site) (known : Known)
   only-me from f none a b = omega arith
 
   -- each action of an entry is of a session that fits
-  abbrev AllFit : Action → Type 0
-  AllFit entry = (action : Action) → IsIn action (actions_of entry) → is_fit site.setup me.shard (session_in action) ≡ true
+  abbrev AllFit : Entry → Type 0
+  AllFit entry = (action : Action) → IsIn action entry.actions → is_fit site.setup me.shard (session_in action) ≡ true
 
   -- what a node holds is its own, and fits
   own-fit : (t : List (Mark M)) → AllMade site me t → AllWithin site known me t → (p : Proposed) → IsIn p (held_in site.machine (deeds_in t)) → AllFit (site.entry_in p)
@@ -120,12 +120,14 @@ module _ {M : Type 0} (site : Site M) (sound : IsSoundSite site) (known : Known)
           let v = view_at site me t in
           elim made.0.1 as (λ z. AllFit (site.entry_in p)) [
             | inl due ↦
-                let d = due-from site.setup v.bench.pool due.entry due.due in
+                let read : site.entry_in p ≡ due.entry = ap site.entry_in (same ∙ due.is) ∙ due-read site sound known me t due.entry made.1 within.1 (local site sound known me t made.1 within.1) due.due in
+                let one : AllFit due.entry =
+                (λ action i.
+                let d = due-from site.setup v.bench.pool due.entry due.due action i in
                 let s : IsSourced site me t d.0 = subst (λ (n : NodeId). IsSourced site n t d.0) (me-same site me t) (pool-sourced site me t made.1 d.0 d.1) in
-                let read : site.entry_in p ≡ due.entry = ap site.entry_in (same ∙ due.is) ∙ due-read site sound known me t due.entry made.1 within.1 (local site sound known me t made.1 within.1) d in
-                let session : session_in due.entry ≡ d.0.1.session = elim d.2 [ inl prepare ↦ ap session_in prepare | inr decision ↦ ap session_in decision.1 ] in
-                let one : is_fit site.setup me.shard (session_in due.entry) ≡ true = ap (λ z. is_fit site.setup me.shard z) session ∙ s.fit in
-                subst AllFit (sym read) (each_action (λ (e : Action). is_fit site.setup me.shard (session_in e) ≡ true) due.entry one)
+                let session : session_in action ≡ d.0.1.session = elim d.2 [ inl prepare ↦ ap session_in prepare | inr decision ↦ ap session_in decision.1 ] in
+                ap (λ z. is_fit site.setup me.shard z) session ∙ s.fit) in
+                subst AllFit (sym read) one
             | inr candidate ↦
                 let may = ap site.machine.may_propose (sym (member-is site me t)) ∙ candidate.may in
                 held p (subst (λ z. IsIn z (held_in site.machine (deeds_in t))) (sym same) (sound.holds.offered site.setup.f me.index (deeds_in t) (deeds-kept site sound known me t made.1) candidate.candidates proposed may candidate.within))
@@ -138,4 +140,4 @@ module _ {M : Type 0} (site : Site M) (sound : IsSoundSite site) (known : Known)
       let did = c.made.0 in
       let at = subst (λ (h : Member M). slice_get (chosen_in h.deeds) e.slot ≡ Some did.proposed) (member-is site me c.before) did.chosen in
       let held = sound.holds.logged site.setup.f me.index (deeds_in c.before) (deeds-kept site sound known me c.before c.made.1) e.slot did.proposed at in
-      own-fit c.before c.made.1 c.within did.proposed held (Prepare x) (got-in (actions_of (site.entry_in did.proposed)) e.place (Prepare x) did.within)
+      own-fit c.before c.made.1 c.within did.proposed held (Prepare x) (got-in (site.entry_in did.proposed).actions e.place (Prepare x) did.within)

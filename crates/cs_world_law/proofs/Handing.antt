@@ -4,7 +4,7 @@ use Rattle.std.specs.Prelude.{Ok, Err}
 use Rattle.std.proofs.lemmas.Bool.{cond_both, and_parts, and_from, eq-eqb}
 use Rattle.cs_base.specs.declared.node_id.NodeId.{NodeId}
 use Rattle.cs_base.specs.NodeId.{same_name}
-use Rattle.cs_tx_types.specs.declared.action.Action.{Action}
+use Rattle.cs_tx_types.specs.declared.entry.Entry.{Entry}
 use Rattle.cs_wire_message.specs.declared.message.Message.{Message}
 use Rattle.cs_wire_message.specs.declared.message.Message.TheVariants as message
 use Rattle.cs_wire_message.specs.Classes.{Class, OfOrder, class_of}
@@ -145,7 +145,7 @@ module _ {M : Type 0} (site : Site M) (v : View M) where
       let seen = entered_view (length (chosen_in v.member.deeds)) (site.machine.view v.member) (site.machine.view (did deed v.member)) in
       all-deed site v.me (out ++ seen) deed (λ sign i. in_left sign out seen i) other
 
-  by-due : (o : Option Action) → Each (due_marks site v o)
+  by-due : (o : Option Entry) → Each (due_marks site v o)
   by-due None = tt
   by-due (Some entry) = by-deed (Proposing (site.proposed_of entry) (site.machine.proposing v.member (site.proposed_of entry))) tt
 

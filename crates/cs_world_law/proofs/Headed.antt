@@ -20,7 +20,7 @@ use Rattle.cs_node_rules.specs.Site.{Mark, In, Ordered, Plain, Site, signs_of}
 use Rattle.cs_node_law.specs.Made.{IsMade, AllMade}
 use Rattle.cs_node_law.proofs.Heads.{root_hashed, before_hashed}
 use Rattle.cs_world_law.specs.Shown.{leaves_of}
-use Rattle.cs_world_law.proofs.Logged.{leaf-count, LogAt, DoneAt, by-sign, by-slots, leaves-kept, AreEntries, leaves-fit}
+use Rattle.cs_world_law.proofs.Logged.{IsAlone, leaf-count, LogAt, DoneAt, by-sign, by-slots, leaves-kept, AreEntries, leaves-fit}
 
 -- ---- lists
 
@@ -148,14 +148,14 @@ module _ {M : Type 0} (site : Site M) (me : NodeId) where
         leaves = refl;
       }
 
-  pub are-covered : (t : List (Mark M)) → AllMade site me t → AreEntries site me (signs_of t) → length (DoneAt site me t) ≤ 2 ^ 64 → me.shard < 2 ^ 16
+  pub are-covered : IsAlone site me → (t : List (Mark M)) → AllMade site me t → AreEntries site me (signs_of t) → length (DoneAt site me t) ≤ 2 ^ 64 → me.shard < 2 ^ 16
       → (number : ℕ) (head : Bytes) → IsIn (Headed number head) (signs_of t) → IsCovered t number head
-  are-covered t made all few small number head i =
+  are-covered one t made all few small number head i =
       let log = LogAt site me t in
       let leaves = leaves_of (DoneAt site me t) in
       let of = log-of t in
       let h = heads-kept t made number head i in
-      let kept = leaves-kept site me t made in
+      let kept = leaves-kept site me one t made in
       let part = take 16 (drop (16 * number) leaves) in
       let is : covered_leaves log number ≡ map (leaf_encoding One) part =
       ap (λ (l : List (List ℕ)). take 16 (drop (16 * number) l)) kept
@@ -166,7 +166,7 @@ module _ {M : Type 0} (site : Site M) (me : NodeId) where
       omega (arith, of.enough, h.there, length-take 16 (drop (16 * number) log.leaves), length-drop (16 * number) log.leaves) in
       record {
         part = part;
-        fit = All-take (LeafFits One) 16 (drop (16 * number) leaves) (All-drop (LeafFits One) (16 * number) leaves (leaves-fit site me t made all few));
+        fit = All-take (LeafFits One) 16 (drop (16 * number) leaves) (All-drop (LeafFits One) (16 * number) leaves (leaves-fit site me one t made all few));
         within = λ leaf j. in-drop leaf (16 * number) leaves (in-take leaf 16 (drop (16 * number) leaves) j);
         is = is;
         over = record {

@@ -18,7 +18,7 @@ AreLawful {M} site known =
     (story : List (Moment M)) (shard : ℕ) → shard < site.setup.shards → Story site known story →
     IsLawful site.machine site.setup.f (is_honest_in site shard) (shard_acts shard story)
 
-pub lawful-apart : {M : Type 0} (site : Site M) (sound : IsSoundSite site) (known : Known) → IsUnique known.entries → AreLawful site known
+pub lawful-apart : {M : Type 0} (site : Site M) (sound : IsSoundSite site) (known : Known) → IsUnique site.setup.version known.entries → AreLawful site known
 lawful-apart {M} site sound known unique story shard fits story_is = lawful site sound known story shard fits story_is unique
 
 -- ---- a shard of one member

@@ -2,9 +2,12 @@
 use Rattle.std.proofs.Common.{◌≡◌, ◌⊎◌, inl, inr, ℕ, List, [], ◌∷◌, ◌++◌, Some, map, sym, ◌∙◌, ap, subst, refl}
 use Rattle.std.specs.Prelude.{Ok, Err, slice_get}
 use Rattle.cs_base.specs.declared.node_id.NodeId.{NodeId}
+use Rattle.cs_base.specs.declared.version.Version.{Version}
 use Rattle.cs_tx_types.specs.declared.session.Session.{Session}
 use Rattle.cs_tx_types.specs.declared.action.Action.{Action}
+use Rattle.cs_tx_types.specs.declared.entry.Entry.{Entry}
 use Rattle.cs_tx_types.specs.Session.{SessionFits, ActionFits, session_in}
+use Rattle.cs_tx_types.specs.Entry.{EntryFits}
 use Rattle.cs_wire_message.specs.declared.message.Message.{Message}
 use Rattle.cs_wire_message.specs.declared.message.Message.TheVariants as message
 use Rattle.cs_wire.specs.Opened.{Opened}
@@ -15,7 +18,6 @@ use Rattle.cs_order.specs.Runs.{KeepsRules, AllKeepRules, entries_handed_in as e
 use Rattle.cs_ledger.specs.Ledger.{Bytes}
 use Rattle.cs_ledger.specs.Table.{Effect}
 use Rattle.cs_ledger.proofs.Basics.{in_either}
-use Rattle.cs_node_state.specs.Setup.{actions_of}
 use Rattle.cs_node_rules.specs.Signs.{Dropped, Took, Entered, Viewed, Did, Headed, Kept, Sent}
 use Rattle.cs_node_rules.specs.Site.{Datagram, Tick, Mark, In, Ordered, Plain, Site, signs_of}
 use Rattle.cs_node_rules.specs.Collisions.{sessions_in, entries_in, in_opened}
@@ -26,10 +28,12 @@ use Rattle.cs_node_law.proofs.Views.{sessions_given, me-same}
 use Rattle.cs_world_law.proofs.Deeds.{deeds_in, member-is}
 use Rattle.cs_world_law.proofs.Trails.{AllWithin}
 use Rattle.cs_node_law.proofs.Pools.{Place, IsSourced, pool-sourced}
-use Rattle.cs_node_law.proofs.Due.{IsDueFrom, due-from}
-use Rattle.cs_node_state.specs.laws.Actions.{each_action}
+use Rattle.cs_node_law.proofs.Due.{IsDueFrom, all-from, due-from}
+use Rattle.cs_node_state.specs.Admission.{all_due, due}
+use Rattle.cs_node_state.specs.laws.Due.{due_fits}
+use Rattle.cs_node_rules.proofs.Entries.{actions-fit}
 use Rattle.cs_node_law.proofs.Actions.{got-in}
-use Rattle.cs_node_law.proofs.Fitting.{session-fits, entry-fits, sessions-fit, entries-fit}
+use Rattle.cs_node_law.proofs.Fitting.{session-fits, action-fits, each-fits, all-by, sessions-fit, entries-fit}
 
 -- ---- messages and entries
 
@@ -48,22 +52,20 @@ map-in f x [] i = absurd i
 map-in f x (y ∷ xs) (inl e) = inl (ap f e)
 map-in f x (y ∷ xs) (inr i) = inr (map-in f x xs i)
 
--- the session of an action in a message stands there too
-action-session : (m : Message) (e : Action) → IsIn e (entries_in m) → IsIn (session_in e) (sessions_in m)
-action-session (message.Propose slot view entry) e i = map-in session_in e entry.actions i
-action-session (message.Done slot entry) e i = map-in session_in e entry.actions i
-action-session said e there = absurd there
-
--- and so do those of the actions of what is proposed
-entry-sessions : (m : Message) (e : Action) → IsIn e (entries_in m) → (a : Action) → IsIn a (actions_of e) → IsIn (session_in a) (sessions_in m)
-entry-sessions m e there a i = each_action (λ (z : Action). IsIn (session_in z) (sessions_in m)) e (action-session m e there) a i
+-- the sessions of the actions of an entry in a message stand there too
+entry-sessions : (m : Message) (e : Entry) → IsIn e (entries_in m) → (a : Action) → IsIn a e.actions → IsIn (session_in a) (sessions_in m)
+entry-sessions (message.Propose slot view entry) e (inl same) a i = map-in session_in a entry.actions (subst (λ (z : Entry). IsIn a z.actions) same i)
+entry-sessions (message.Propose slot view entry) e (inr none) a i = absurd none
+entry-sessions (message.Done slot entry) e (inl same) a i = map-in session_in a entry.actions (subst (λ (z : Entry). IsIn a z.actions) same i)
+entry-sessions (message.Done slot entry) e (inr none) a i = absurd none
+entry-sessions said e there a i = absurd there
 
 -- a known entry, as it is proposed
-pub record IsListed (known : Known) (p : Proposed) : Type 0 where
-  pub entry : Action
-  pub fits : ActionFits entry
-  pub is : p ≡ proposed_of entry
-  pub sessions : (a : Action) → IsIn a (actions_of entry) → IsIn (session_in a) known.sessions
+pub record IsListed (version : Version) (known : Known) (p : Proposed) : Type 0 where
+  pub entry : Entry
+  pub fits : EntryFits version entry
+  pub is : p ≡ proposed_of version entry
+  pub sessions : (a : Action) → IsIn a entry.actions → IsIn (session_in a) known.sessions
   pub listed : IsIn entry known.entries
 
 -- a known session
@@ -71,9 +73,12 @@ abbrev pub IsOurs : Known → Session → Type 0
 IsOurs known x = SessionFits x × IsIn x known.sessions
 
 module _ {M : Type 0} (site : Site M) (sound : IsSoundSite site) (known : Known) (me : NodeId) where
+  abbrev version : Version
+  version = site.setup.version
+
   -- ---- what was given
 
-  heard-fine : (t : List (Mark M)) (bytes : Bytes) (sender : NodeId) (said : Message) → AllWithin site known me t → current t ≡ Some (Datagram bytes) → site.net.opened me bytes ≡ Ok (sender, said) → IsFine known said
+  heard-fine : (t : List (Mark M)) (bytes : Bytes) (sender : NodeId) (said : Message) → AllWithin site known me t → current t ≡ Some (Datagram bytes) → site.net.opened me bytes ≡ Ok (sender, said) → IsFine version known said
   heard-fine [] bytes sender said within c reads = cc
   heard-fine (In (Datagram other) ∷ t) bytes sender said within c reads = let same : other ≡ bytes = cc in within.0 sender said (ap (site.net.opened me) same ∙ reads)
   heard-fine (In Tick ∷ t) bytes sender said within c reads = cc
@@ -84,7 +89,7 @@ module _ {M : Type 0} (site : Site M) (sound : IsSoundSite site) (known : Known)
   pub heard-reads : (t : List (Mark M)) (sender : NodeId) (said : Message) → (h : IsHeard site (view_at site me t) t sender said) → site.net.opened me h.bytes ≡ Ok (sender, said)
   heard-reads t sender said h = ap (λ (n : NodeId). site.net.opened n h.bytes) (sym (me-same site me t)) ∙ h.reads
 
-  pub fine : (t : List (Mark M)) (sender : NodeId) (said : Message) → AllWithin site known me t → IsHeard site (view_at site me t) t sender said → IsFine known said
+  pub fine : (t : List (Mark M)) (sender : NodeId) (said : Message) → AllWithin site known me t → IsHeard site (view_at site me t) t sender said → IsFine version known said
   fine t sender said within h = heard-fine t h.bytes sender said within h.is_current (heard-reads t sender said h)
 
   pub given-ours : (t : List (Mark M)) (x : Session) → AllWithin site known me t → IsIn x (sessions_given site me t) → IsOurs known x
@@ -96,7 +101,7 @@ module _ {M : Type 0} (site : Site M) (sound : IsSoundSite site) (known : Known)
       ]
     where
       opens : (o : Opened) → site.net.opened me bytes ≡ o → IsIn x (in_opened sessions_in o) → IsOurs known x
-      opens (Ok said) is j = let f = within.0 said.0 said.1 is in (sessions-fit said.1 f.fits x j, f.sessions x j)
+      opens (Ok said) is j = let f = within.0 said.0 said.1 is in (sessions-fit version said.1 f.fits x j, f.sessions x j)
       opens (Err error) is j = absurd j
   given-ours (In Tick ∷ t) x within i = given-ours t x within.1 i
   given-ours (Ordered deed ∷ t) x within i = given-ours t x within.1 i
@@ -111,7 +116,7 @@ module _ {M : Type 0} (site : Site M) (sound : IsSoundSite site) (known : Known)
   deeds-kept (Ordered deed ∷ t) made = (subst (λ (h : Member M). KeepsRules site.machine h deed) (member-is site me t) made.0.0, deeds-kept t made.1)
 
   pub record IsLocal (t : List (Mark M)) : Type 0 where
-    pub held : (p : Proposed) → IsIn p (held_in site.machine (deeds_in t)) → IsListed known p
+    pub held : (p : Proposed) → IsIn p (held_in site.machine (deeds_in t)) → IsListed version known p
     pub voted : (x : Session) → HasVotedOn x (signs_of t) → IsOurs known x
 
   pooled-ours : (t : List (Mark M)) (e : Place) → AllMade site me t → AllWithin site known me t → IsLocal t → IsIn e (view_at site me t).bench.pool → IsOurs known e.1.session
@@ -130,18 +135,23 @@ module _ {M : Type 0} (site : Site M) (sound : IsSoundSite site) (known : Known)
         | inr decision ↦ subst (λ z. IsOurs known (session_in z)) (sym decision.1) o
       ]
 
-  -- what is due is known, and read back
-  pub due-read : (t : List (Mark M)) (entry : Action) → AllMade site me t → AllWithin site known me t → IsLocal t → IsDueFrom site.setup (view_at site me t).bench.pool entry → site.entry_in (site.proposed_of entry) ≡ entry
-  due-read t entry made within l d = ap site.entry_in (sound.proposes entry) ∙ sound.reads entry (entry-fits entry (due-ours t entry made within l d).0)
+  -- what is due has an encoding, and is read back
+  due-fine : (t : List (Mark M)) (entry : Entry) → AllMade site me t → AllWithin site known me t → IsLocal t → due site.setup (view_at site me t).bench.pool ≡ Some entry → EntryFits version entry
+  due-fine t entry made within l is =
+      let pool = (view_at site me t).bench.pool in
+      due_fits site.setup pool entry is (all-by (all_due site.setup pool) (λ action i. action-fits action (due-ours t action made within l (all-from site.setup pool action i)).0))
+
+  pub due-read : (t : List (Mark M)) (entry : Entry) → AllMade site me t → AllWithin site known me t → IsLocal t → due site.setup (view_at site me t).bench.pool ≡ Some entry → site.entry_in (site.proposed_of entry) ≡ entry
+  due-read t entry made within l is = ap site.entry_in (sound.proposes entry) ∙ sound.reads entry (due-fine t entry made within l is)
 
   -- the entries that a deed hands in
   pub by-deed : (t : List (Mark M)) (deed : Deed M) → AllMade site me t → AllWithin site known me t → IsLocal t → IsMade site me t (Ordered deed) → IsWithinKnown site known me (Ordered deed)
-      → (p : Proposed) → IsIn p (entries_by site.machine deed) → IsListed known p
+      → (p : Proposed) → IsIn p (entries_by site.machine deed) → IsListed version known p
   by-deed t (Took_in from m) made within l is in_known p i =
       let k = is.1 in
       let f = fine t (record { shard = (view_at site me t).me.shard; index = from }) k.said within k.heard in
-      let r = in-map proposed_of p (entries_in k.said) (subst (λ z. IsIn p z) (sound.carries.entries k.said m k.reads) i) in
-      record { entry = r.0; fits = entries-fit k.said f.fits r.0 r.1; is = r.2; sessions = λ a j. f.sessions (session_in a) (entry-sessions k.said r.0 r.1 a j); listed = f.entries r.0 r.1 }
+      let r = in-map (proposed_of version) p (entries_in k.said) (subst (λ z. IsIn p z) (sound.carries.entries k.said m k.reads) i) in
+      record { entry = r.0; fits = entries-fit version k.said f.fits r.0 r.1; is = r.2; sessions = λ a j. f.sessions (session_in a) (entry-sessions k.said r.0 r.1 a j); listed = f.entries r.0 r.1 }
   by-deed t (Advanced step sent) made within l is in_known p i = absurd i
   by-deed t (Echoed sent) made within l is in_known p i = absurd i
   by-deed t (Ticked on sent) made within l is in_known p i = absurd i
@@ -152,14 +162,12 @@ module _ {M : Type 0} (site : Site M) (sound : IsSoundSite site) (known : Known)
   by-deed t (Proposing proposed sent) made within l is in_known p (inl same) =
       elim is.1 [
         | inl due ↦
-            let d = due-from site.setup (view_at site me t).bench.pool due.entry due.due in
-            let o = due-ours t due.entry made within l d in
-            let read : site.entry_in proposed ≡ due.entry = ap site.entry_in due.is ∙ due-read t due.entry made within l d in
+            let read : site.entry_in proposed ≡ due.entry = ap site.entry_in due.is ∙ due-read t due.entry made within l due.due in
             record {
               entry = due.entry;
-              fits = entry-fits due.entry o.0;
+              fits = due-fine t due.entry made within l due.due;
               is = same ∙ due.is ∙ sound.proposes due.entry;
-              sessions = each_action (λ (e : Action). IsIn (session_in e) known.sessions) due.entry o.1;
+              sessions = λ action j. (due-ours t action made within l (due-from site.setup (view_at site me t).bench.pool due.entry due.due action j)).1;
               listed = subst (λ z. IsIn z known.entries) read (in_known (site.entry_in proposed) (inl refl));
             }
         | inr candidate ↦
@@ -168,27 +176,31 @@ module _ {M : Type 0} (site : Site M) (sound : IsSoundSite site) (known : Known)
       ]
 
   -- what was chosen was handed in, and read back
-  pub chosen-listed : (t : List (Mark M)) (slot : ℕ) (p : Proposed) → AllMade site me t → IsLocal t → slice_get (chosen_in (view_at site me t).member.deeds) slot ≡ Some p → IsListed known p
+  pub chosen-listed : (t : List (Mark M)) (slot : ℕ) (p : Proposed) → AllMade site me t → IsLocal t → slice_get (chosen_in (view_at site me t).member.deeds) slot ≡ Some p → IsListed version known p
   chosen-listed t slot p made l chosen =
       let at = subst (λ (h : Member M). slice_get (chosen_in h.deeds) slot ≡ Some p) (member-is site me t) chosen in
       l.held p (sound.holds.logged site.setup.f me.index (deeds_in t) (deeds-kept t made) slot p at)
 
-  -- what was executed is known
-  pub record IsDone (entry : Action) : Type 0 where
-    pub fits : ActionFits entry
-    pub session : IsIn (session_in entry) known.sessions
+  -- what was executed is of a known entry
+  pub record IsDone (action : Action) : Type 0 where
+    pub fits : ActionFits action
+    pub session : IsIn (session_in action) known.sessions
+    pub entry : Entry
     pub listed : IsIn entry known.entries
+    pub among : IsIn action entry.actions
 
   pub did-done : (t : List (Mark M)) (slot place : ℕ) (action : Action) (effect : Effect) → AllMade site me (Plain (Did slot place action effect) ∷ t) → IsLocal t → IsDone action
   did-done t slot place action effect made l =
       let p = chosen-listed t slot made.0.proposed made.1 l made.0.chosen in
       let same : site.entry_in made.0.proposed ≡ p.entry = ap site.entry_in p.is ∙ sound.reads p.entry p.fits in
-      let within : IsIn action (actions_of p.entry) =
-      subst (λ (e : Action). IsIn action (actions_of e)) same (got-in (actions_of (site.entry_in made.0.proposed)) place action made.0.within) in
+      let within : IsIn action p.entry.actions =
+      subst (λ (e : Entry). IsIn action e.actions) same (got-in (site.entry_in made.0.proposed).actions place action made.0.within) in
       record {
-        fits = each_action ActionFits p.entry p.fits action within;
+        fits = each-fits p.entry.actions (actions-fit version p.entry p.fits) action within;
         session = p.sessions action within;
-        listed = each_action (λ (e : Action). IsIn e known.entries) p.entry p.listed action within;
+        entry = p.entry;
+        listed = p.listed;
+        among = within;
       }
 
   pub local : (t : List (Mark M)) → AllMade site me t → AllWithin site known me t → IsLocal t

@@ -4,6 +4,7 @@ use Rattle.std.specs.Prelude.{All}
 use Rattle.std.proofs.lemmas.List.{length_push, map_push, length-map}
 use Rattle.std.proofs.lemmas.List.Elements.{All-push}
 use Rattle.cs_base.specs.declared.node_id.NodeId.{NodeId}
+use Rattle.cs_order.specs.declared.proposed.Proposed.{Proposed}
 use Rattle.cs_tx_value.specs.Object.{DigestFits}
 use Rattle.cs_tx_types.specs.declared.action.Action.{Action}
 use Rattle.cs_tx_types.specs.declared.leaf.Leaf.{Leaf}
@@ -76,26 +77,29 @@ module _ {M : Type 0} (site : Site M) (me : NodeId) where
   abbrev pub DoneAt : List (Mark M) → List Execution
   DoneAt t = executions_in me.shard (signs_of t)
 
-  -- leaf by leaf
-  pub leaves-kept : (t : List (Mark M)) → AllMade site me t → (LogAt t).leaves ≡ map (leaf_encoding One) (leaves_of (DoneAt t))
-  leaves-kept [] made = refl
-  leaves-kept (In input ∷ t) made = leaves-kept t made.1
-  leaves-kept (Ordered deed ∷ t) made = leaves-kept t made.1
-  leaves-kept (Plain (Dropped cause) ∷ t) made = leaves-kept t made.1
-  leaves-kept (Plain (Took sender vote x) ∷ t) made = leaves-kept t made.1
-  leaves-kept (Plain (Entered x) ∷ t) made = leaves-kept t made.1
-  leaves-kept (Plain (Viewed slot view) ∷ t) made = leaves-kept t made.1
-  leaves-kept (Plain (Headed number head) ∷ t) made = leaves-kept t made.1
-  leaves-kept (Plain (Kept index checkpoint) ∷ t) made = leaves-kept t made.1
-  leaves-kept (Plain (Sent to message) ∷ t) made = leaves-kept t made.1
-  leaves-kept (Plain (Did slot place entry effect) ∷ t) made =
+  abbrev pub IsAlone : Type 0
+  IsAlone = (p : Proposed) → length (site.entry_in p).actions ≡ 1
+
+  -- leaf by leaf, where each entry has one action
+  pub leaves-kept : IsAlone → (t : List (Mark M)) → AllMade site me t → (LogAt t).leaves ≡ map (leaf_encoding One) (leaves_of (DoneAt t))
+  leaves-kept one [] made = refl
+  leaves-kept one (In input ∷ t) made = leaves-kept one t made.1
+  leaves-kept one (Ordered deed ∷ t) made = leaves-kept one t made.1
+  leaves-kept one (Plain (Dropped cause) ∷ t) made = leaves-kept one t made.1
+  leaves-kept one (Plain (Took sender vote x) ∷ t) made = leaves-kept one t made.1
+  leaves-kept one (Plain (Entered x) ∷ t) made = leaves-kept one t made.1
+  leaves-kept one (Plain (Viewed slot view) ∷ t) made = leaves-kept one t made.1
+  leaves-kept one (Plain (Headed number head) ∷ t) made = leaves-kept one t made.1
+  leaves-kept one (Plain (Kept index checkpoint) ∷ t) made = leaves-kept one t made.1
+  leaves-kept one (Plain (Sent to message) ∷ t) made = leaves-kept one t made.1
+  leaves-kept one (Plain (Did slot place entry effect) ∷ t) made =
       let v = view_at site me t in
       let ran = executed site.setup v.me.shard v.bench entry in
       let past = leaves_of (DoneAt t) in
       let now : Execution = record { shard = me.shard; slot = slot; place = place; entry = entry; effect = effect } in
-      let before = leaves-kept t made.1 in
+      let before = leaves-kept one t made.1 in
       let next : length v.bench.log.leaves ≡ slot =
-      ap length before ∙ length-map past (leaf_encoding One) ∙ leaf-count (DoneAt t) ∙ executions-count me.shard (signs_of t) ∙ sym (next-slot site v (signs_of t) slot place entry effect made.0) in
+      ap length before ∙ length-map past (leaf_encoding One) ∙ leaf-count (DoneAt t) ∙ executions-count me.shard (signs_of t) ∙ sym (next-slot site one v (signs_of t) slot place entry effect made.0) in
       let came : ran.effect ≡ effect = sym made.0.computed in
       let is : next_leaf v.bench entry ran.effect ≡ leaf_by now =
       ap (λ (n : ℕ). let l : Leaf = record { slot = n; place = 0; action = entry; result = effect_from ran.effect } in l) next
@@ -113,22 +117,22 @@ module _ {M : Type 0} (site : Site M) (me : NodeId) where
   entries-before sign past all entry e =
       all entry (record { slot = e.slot; place = e.place; effect = e.effect; later = sign ∷ e.later; earlier = e.earlier; split = ap (λ (l : List Sign). sign ∷ l) e.split })
 
-  pub leaves-fit : (t : List (Mark M)) → AllMade site me t → AreEntries (signs_of t) → length (DoneAt t) ≤ 2 ^ 64 → All (LeafFits One) (leaves_of (DoneAt t))
-  leaves-fit [] made all few = λ i d below. absurd (omega (arith, below))
-  leaves-fit (In input ∷ t) made all few = leaves-fit t made.1 all few
-  leaves-fit (Ordered deed ∷ t) made all few = leaves-fit t made.1 all few
-  leaves-fit (Plain (Dropped cause) ∷ t) made all few = leaves-fit t made.1 (entries-before (Dropped cause) (signs_of t) all) few
-  leaves-fit (Plain (Took sender vote x) ∷ t) made all few = leaves-fit t made.1 (entries-before (Took sender vote x) (signs_of t) all) few
-  leaves-fit (Plain (Entered x) ∷ t) made all few = leaves-fit t made.1 (entries-before (Entered x) (signs_of t) all) few
-  leaves-fit (Plain (Viewed slot view) ∷ t) made all few = leaves-fit t made.1 (entries-before (Viewed slot view) (signs_of t) all) few
-  leaves-fit (Plain (Headed number head) ∷ t) made all few = leaves-fit t made.1 (entries-before (Headed number head) (signs_of t) all) few
-  leaves-fit (Plain (Kept index checkpoint) ∷ t) made all few = leaves-fit t made.1 (entries-before (Kept index checkpoint) (signs_of t) all) few
-  leaves-fit (Plain (Sent to message) ∷ t) made all few = leaves-fit t made.1 (entries-before (Sent to message) (signs_of t) all) few
-  leaves-fit (Plain (Did slot place entry effect) ∷ t) made all few =
+  pub leaves-fit : IsAlone → (t : List (Mark M)) → AllMade site me t → AreEntries (signs_of t) → length (DoneAt t) ≤ 2 ^ 64 → All (LeafFits One) (leaves_of (DoneAt t))
+  leaves-fit one [] made all few = λ i d below. absurd (omega (arith, below))
+  leaves-fit one (In input ∷ t) made all few = leaves-fit one t made.1 all few
+  leaves-fit one (Ordered deed ∷ t) made all few = leaves-fit one t made.1 all few
+  leaves-fit one (Plain (Dropped cause) ∷ t) made all few = leaves-fit one t made.1 (entries-before (Dropped cause) (signs_of t) all) few
+  leaves-fit one (Plain (Took sender vote x) ∷ t) made all few = leaves-fit one t made.1 (entries-before (Took sender vote x) (signs_of t) all) few
+  leaves-fit one (Plain (Entered x) ∷ t) made all few = leaves-fit one t made.1 (entries-before (Entered x) (signs_of t) all) few
+  leaves-fit one (Plain (Viewed slot view) ∷ t) made all few = leaves-fit one t made.1 (entries-before (Viewed slot view) (signs_of t) all) few
+  leaves-fit one (Plain (Headed number head) ∷ t) made all few = leaves-fit one t made.1 (entries-before (Headed number head) (signs_of t) all) few
+  leaves-fit one (Plain (Kept index checkpoint) ∷ t) made all few = leaves-fit one t made.1 (entries-before (Kept index checkpoint) (signs_of t) all) few
+  leaves-fit one (Plain (Sent to message) ∷ t) made all few = leaves-fit one t made.1 (entries-before (Sent to message) (signs_of t) all) few
+  leaves-fit one (Plain (Did slot place entry effect) ∷ t) made all few =
       let past = signs_of t in
       let fewer : length (DoneAt t) ≤ 2 ^ 64 = omega (arith, few) in
-      let below : slot < 2 ^ 64 = omega (arith, few, next-slot site (view_at site me t) past slot place entry effect made.0, executions-count me.shard past) in
+      let below : slot < 2 ^ 64 = omega (arith, few, next-slot site one (view_at site me t) past slot place entry effect made.0, executions-count me.shard past) in
       let fits = all entry (record { slot = slot; place = place; effect = effect; later = []; earlier = past; split = refl }) in
       All-push (LeafFits One) (leaves_of (DoneAt t)) (leaf_by (record { shard = me.shard; slot = slot; place = place; entry = entry; effect = effect }))
-      (leaves-fit t made.1 (entries-before (Did slot place entry effect) past all) fewer)
+      (leaves-fit one t made.1 (entries-before (Did slot place entry effect) past all) fewer)
       (record { slot = below; place = refl; action = fits })

@@ -12,7 +12,7 @@ use Rattle.cs_tx_types.specs.declared.vote.Vote as Tx
 use Rattle.cs_tx_types.specs.Session.{SessionFits}
 use Rattle.cs_wire_message.specs.declared.message.Message.{Message}
 use Rattle.cs_wire_message.specs.declared.message.Message.TheVariants as message
-use Rattle.cs_base.specs.declared.version.Version.TheVariants.{One}
+use Rattle.cs_base.specs.declared.version.Version.{Version}
 use Rattle.cs_wire_message.specs.Message.{MessageFits}
 use Rattle.cs_order.specs.declared.proposed.Proposed.{Proposed}
 use Rattle.cs_base.specs.Lists.{IsIn}
@@ -57,24 +57,24 @@ handed-of {M} from to m (act ∷ acts) h = go (act.member == from) refl (handed-
     go false e later before = inr (later before)
 
 -- an entry has a digest
-pub entry-digest : (p : Proposed) → IsEntry p → digest_fits p.digest ≡ true
-entry-digest p is = rw is.is (digest-passes (digest_of_entry One (entry_alone is.entry)) (length-sha256 _, bytes-sha256 _))
+pub entry-digest : (version : Version) (p : Proposed) → IsEntry version p → digest_fits p.digest ≡ true
+entry-digest version p is = rw is.is (digest-passes (digest_of_entry version is.entry) (length-sha256 _, bytes-sha256 _))
 
 -- a message of the order that one of these deeds handed out
 pub record IsOrdered {M : Type 0} (site : Site M) (to : ℕ) (said : Message) (deeds : List (Deed M)) : Type 0 where
-  pub fits : MessageFits One said
+  pub fits : MessageFits site.setup.version said
   pub ordering : is_ordering said ≡ true
   pub back : (m : M) → site.carrier.read said ≡ Some m → HandedBy m to deeds
 
-pub handed-is : {M : Type 0} (site : Site M) (sound : IsSoundSite site) (me to : ℕ) (said : Message) (deeds : List (Deed M)) → AllKeepRules site.machine site.setup.f me deeds → ((p : Proposed) → IsIn p (held_in site.machine deeds) → IsEntry p)
+pub handed-is : {M : Type 0} (site : Site M) (sound : IsSoundSite site) (me to : ℕ) (said : Message) (deeds : List (Deed M)) → AllKeepRules site.machine site.setup.f me deeds → ((p : Proposed) → IsIn p (held_in site.machine deeds) → IsEntry site.setup.version p)
     → IsHanded site to said deeds → IsOrdered site to said deeds
 handed-is {M} site sound me to said [] kept all h = absurd h
 handed-is {M} site sound me to said (deed ∷ past) kept all (inl now) =
     let m = now.0 in
-    let proper = sound.holds.proper site.setup.f me deed past kept (λ p i. entry-digest p (all p i)) m to now.1.0 in
+    let proper = sound.holds.proper site.setup.f me deed past kept (λ p i. entry-digest site.setup.version p (all p i)) m to now.1.0 in
     let entries = λ (p : Proposed) (i : IsIn p (site.machine.carried m)). all p (sound.holds.sent site.setup.f me deed past kept m to now.1.0 p i) in
     record {
-      fits = subst (MessageFits One) now.1.1 (sound.carries.fits m);
+      fits = subst (MessageFits site.setup.version) now.1.1 (sound.carries.fits m);
       ordering = subst (λ z. is_ordering z ≡ true) now.1.1 (sound.carries.ours m proper entries);
       back = λ other reads.
           let q : Some m ≡ Some other = sym (sound.carries.back m proper entries) ∙ ap site.carrier.read now.1.1 ∙ reads in
@@ -178,13 +178,13 @@ module _ {M : Type 0} (site : Site M) (sound : IsSoundSite site) (known : Known)
       elim (said-of sender t i s.said made within s.sent) as (λ z. IsTold i sender past said) [
         | inl h ↦
             let l = local site sound known sender t made within in
-            let entries = λ (p : Proposed) (j : IsIn p (held_in site.machine (deeds_in t))). let k = l.held p j in let e : IsEntry p = record { entry = k.entry; fits = k.fits; is = k.is } in e in
+            let entries = λ (p : Proposed) (j : IsIn p (held_in site.machine (deeds_in t))). let k = l.held p j in let e : IsEntry site.setup.version p = record { entry = k.entry; fits = k.fits; is = k.is } in e in
             let o = handed-is site sound sender.index i.index s.said (deeds_in t) (deeds-kept site sound known sender t made) entries h.1 in
             let same = sound.exact sender i sender s.said said there here o.fits opens in
             inl (h.0, subst (λ z. IsOrdered site i.index z (deeds_in t)) (sym same) o)
         | inr w ↦ elim w as (λ z. IsTold i sender past said) [
           | inl c ↦
-              let same = sound.exact sender i sender s.said said there here (subst (MessageFits One) (sym c.is) c.fits) opens in
+              let same = sound.exact sender i sender s.said said there here (subst (MessageFits site.setup.version) (sym c.is) c.fits) opens in
               inr (inl (record { vote = c.vote; asks = c.asks; x = c.x; is = same ∙ c.is; given = c.given; fits = c.fits }))
           | inr other ↦ elim other as (λ z. IsTold i sender past said) [
             | inl want ↦ inr (inr (inl (sound.wanted sender i sender want.0 said there here (subst Opens want.1 opens))))
@@ -259,31 +259,31 @@ module _ {M : Type 0} (site : Site M) (sound : IsSoundSite site) (known : Known)
   -- ---- its law
 
   handed-step : (shard : ℕ) (node : NodeId) (mark : Mark M) (past : List (Moment M)) (p : Proposed) → Story site known past → MomentFollows site known past (record { node = node; mark = mark })
-      → (IsIn p (handed_in site.machine (shard_acts shard past)) → IsListed known p) → IsIn p (handed_in site.machine (acts_at shard node mark (shard_acts shard past))) → IsListed known p
+      → (IsIn p (handed_in site.machine (shard_acts shard past)) → IsListed site.setup.version known p) → IsIn p (handed_in site.machine (acts_at shard node mark (shard_acts shard past))) → IsListed site.setup.version known p
   handed-step shard node (In input) past p story follows before = before
   handed-step shard node (Plain sign) past p story follows before = before
   handed-step shard node (Ordered deed) past p story follows before =
       let t = trail_at node past in
       let made = made-all site known node past story in
       let within = within-all site known node past story in
-      cond_both (node.shard == shard) (record { member = node.index; deed = deed } ∷ shard_acts shard past) (shard_acts shard past) (λ l. IsIn p (handed_in site.machine l) → IsListed known p)
+      cond_both (node.shard == shard) (record { member = node.index; deed = deed } ∷ shard_acts shard past) (shard_acts shard past) (λ l. IsIn p (handed_in site.machine l) → IsListed site.setup.version known p)
       (λ e i. elim (order-either p (entries_handed_in site.machine deed) (handed_in site.machine (shard_acts shard past)) i) [
         | inl now ↦ by-deed site sound known node t deed made within (local site sound known node t made within) follows.made follows.within p now
         | inr old ↦ before old
       ])
       (λ e. before)
 
-  handed-listed : (story : List (Moment M)) (shard : ℕ) (p : Proposed) → Story site known story → IsIn p (handed_in site.machine (shard_acts shard story)) → IsListed known p
+  handed-listed : (story : List (Moment M)) (shard : ℕ) (p : Proposed) → Story site known story → IsIn p (handed_in site.machine (shard_acts shard story)) → IsListed site.setup.version known p
   handed-listed [] shard p story i = absurd i
   handed-listed (m ∷ past) shard p story i = handed-step shard m.node m.mark past p story.1 story.0 (handed-listed past shard p story.1) i
 
-  no-collision : (story : List (Moment M)) (shard : ℕ) → Story site known story → IsUnique known.entries → EntriesToldApart (handed_in site.machine (shard_acts shard story))
+  no-collision : (story : List (Moment M)) (shard : ℕ) → Story site known story → IsUnique site.setup.version known.entries → EntriesToldApart (handed_in site.machine (shard_acts shard story))
   no-collision story shard story_is unique a b i j e =
       let x = handed-listed story shard a story_is i in
       let y = handed-listed story shard b story_is j in
-      let digests : (proposed_of x.entry).digest ≡ (proposed_of y.entry).digest = ap (λ (p : Proposed). p.digest) (sym x.is) ∙ e ∙ ap (λ (p : Proposed). p.digest) y.is in
+      let digests : (proposed_of site.setup.version x.entry).digest ≡ (proposed_of site.setup.version y.entry).digest = ap (λ (p : Proposed). p.digest) (sym x.is) ∙ e ∙ ap (λ (p : Proposed). p.digest) y.is in
       ap (λ (p : Proposed). p.bytes) x.is ∙ unique x.entry y.entry x.listed y.listed digests ∙ ap (λ (p : Proposed). p.bytes) (sym y.is)
 
-  pub lawful : (story : List (Moment M)) (shard : ℕ) → shard < site.setup.shards → Story site known story → IsUnique known.entries → IsLawful site.machine site.setup.f (is_honest_in site shard) (shard_acts shard story)
+  pub lawful : (story : List (Moment M)) (shard : ℕ) → shard < site.setup.shards → Story site known story → IsUnique site.setup.version known.entries → IsLawful site.machine site.setup.f (is_honest_in site shard) (shard_acts shard story)
   lawful story shard fits story_is unique =
       sound.law site.setup.f (is_honest_in site shard) (shard_acts shard story) sound.serves (sound.few shard fits) (story-run story shard story_is) (no-collision story shard story_is unique)

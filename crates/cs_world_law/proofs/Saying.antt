@@ -132,7 +132,7 @@ abbrev IsWell : {M : Type 0} → Site M → M → Type 0
 IsWell {M} site m = (site.machine.proper m ≡ true) × (site.carrier.read (site.carrier.written m) ≡ Some m)
 
 well-said : {M : Type 0} (site : Site M) (sound : IsSoundSite site) (me : ℕ) (deeds : List (Deed M)) → AllKeepRules site.machine site.setup.f me deeds
-    → ((p : Proposed) → IsIn p (held_in site.machine deeds) → IsEntry p)
+    → ((p : Proposed) → IsIn p (held_in site.machine deeds) → IsEntry site.setup.version p)
     → (deed : Deed M) → IsIn deed deeds → (out : Outgoing M) → IsIn out (sent_by deed) → IsWell site out.message
 well-said {M} site sound me [] kept all deed i out j = absurd i
 well-said {M} site sound me (first ∷ past) kept all deed (inr i) out j =
@@ -140,7 +140,7 @@ well-said {M} site sound me (first ∷ past) kept all deed (inr i) out j =
 well-said {M} site sound me (first ∷ past) kept all deed (inl e) out j =
     let m = out.message in
     let given = is-for (sent_by first) out (subst (λ (d : Deed M). IsIn out (sent_by d)) e j) in
-    let proper = sound.holds.proper site.setup.f me first past kept (λ p k. entry-digest p (all p k)) m (whom out.to) given in
+    let proper = sound.holds.proper site.setup.f me first past kept (λ p k. entry-digest site.setup.version p (all p k)) m (whom out.to) given in
     let entries = λ (p : Proposed) (k : IsIn p (site.machine.carried m)). all p (sound.holds.sent site.setup.f me first past kept m (whom out.to) given p k) in
     (proper, sound.carries.back m proper entries)
 
@@ -156,7 +156,7 @@ out-sign {M} site me (Some k) m other to (inl e) =
     subst (λ b. IsIn (Sent to said) (if b then Sent name said ∷ [] else [])) (sym (other k refl)) (inl (ap (λ (n : NodeId). Sent n said) e))
 
 module _ (site : Site OrderMessage) (sound : IsSoundSite site) (machine_is : site.machine ≡ slot_machine) (me : NodeId) (t : List (Mark OrderMessage))
-    (kept : AllKeepRules site.machine site.setup.f me.index (deeds_in t)) (entries : (p : Proposed) → IsIn p (held_in site.machine (deeds_in t)) → IsEntry p) (handled : AreHandled site me t) where
+    (kept : AllKeepRules site.machine site.setup.f me.index (deeds_in t)) (entries : (p : Proposed) → IsIn p (held_in site.machine (deeds_in t)) → IsEntry site.setup.version p) (handled : AreHandled site me t) where
   pub said-so : (deed : Deed OrderMessage) → IsIn deed (deeds_in t) → (out : Outgoing OrderMessage) → IsIn out (sent_by deed) → IsSaid site me (signs_of t) out
   said-so deed i out j =
       let well = well-said site sound me.index (deeds_in t) kept entries deed i out j in

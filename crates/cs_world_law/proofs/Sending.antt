@@ -9,6 +9,8 @@ use Rattle.cs_tx_types.specs.declared.vote.Vote.{Vote}
 use Rattle.cs_tx_types.specs.declared.vote.Vote.TheVariants.{Commit}
 use Rattle.cs_tx_types.specs.declared.checkpoint.Checkpoint.{Checkpoint}
 use Rattle.cs_tx_types.specs.declared.action.Action.{Action}
+use Rattle.cs_tx_types.specs.declared.entry.Entry.{Entry}
+use Rattle.cs_tx_types.specs.declared.entry.Entry.{Entry}
 use Rattle.cs_wire_message.specs.declared.message.Message.{Message}
 use Rattle.cs_wire_message.specs.declared.message.Message.TheVariants as message
 use Rattle.cs_wire_message.specs.Classes.{Class, OfOrder, class_of}
@@ -27,7 +29,7 @@ use Rattle.cs_ledger.specs.Table.{Effect}
 use Rattle.cs_ledger.proofs.Basics.{in_left, in_right}
 use Rattle.cs_node_rules.proofs.Heard.{AllHeard, heard}
 use Rattle.cs_check_rules.specs.Chain.{head_of, made_last, kept_slots}
-use Rattle.cs_node_state.specs.Setup.{actions_of, Setup, digest_of, concerned}
+use Rattle.cs_node_state.specs.Setup.{Setup, digest_of, concerned}
 use Rattle.cs_tx_types.specs.Session.{session_in}
 use Rattle.cs_node_state.specs.Admission.{due}
 use Rattle.cs_node_rules.specs.Members.{is_other_member, others}
@@ -266,13 +268,13 @@ tell-actions setup me b slot place (action ∷ more) past is tells =
     (tell-actions setup me left slot (suc place) more (signs ++ past) here (tell-ran setup me b slot place action past is tells))
 
 -- with the checkpoint that it makes
-tell-execution : (setup : Setup) (me : NodeId) (b : Bench) (slot : ℕ) (entry : Action) (past : List Sign) → bench_at setup me.shard past ≡ b → IsTelling setup me past → IsTelling setup me (execution_signs setup me b slot entry ++ past)
+tell-execution : (setup : Setup) (me : NodeId) (b : Bench) (slot : ℕ) (entry : Entry) (past : List Sign) → bench_at setup me.shard past ≡ b → IsTelling setup me past → IsTelling setup me (execution_signs setup me b slot entry ++ past)
 tell-execution setup me b slot entry past is tells =
-    let ran = actions_signs setup me b slot 0 (actions_of entry) in
+    let ran = actions_signs setup me b slot 0 entry.actions in
     let made = made_last (bench_after setup me.shard ran b).log in
     let headed = headed_signs setup me made in
     subst (λ l. IsTelling setup me l) (sym (append_assoc headed ran past))
-    (tell-over setup me headed (ran ++ past) (no-headed setup me made) (tell-actions setup me b slot 0 (actions_of entry) past is tells))
+    (tell-over setup me headed (ran ++ past) (no-headed setup me made) (tell-actions setup me b slot 0 entry.actions past is tells))
 
 -- ---- the rules of a node
 
@@ -309,7 +311,7 @@ module _ {M : Type 0} (site : Site M) (me : NodeId) where
     TurnTells None = Unit {0}
     TurnTells (Some fresh) = Tells (fresh ++ t)
 
-    turn-due : (o : Option Action) → TurnTells (due_marks site v o)
+    turn-due : (o : Option Entry) → TurnTells (due_marks site v o)
     turn-due None = tt
     turn-due (Some entry) = with-deed (Proposing (site.proposed_of entry) (site.machine.proposing v.member (site.proposed_of entry)))
 

@@ -7,9 +7,8 @@ use Rattle.cs_base.specs.Lists.{IsIn}
 use Rattle.cs_base.specs.declared.node_id.NodeId.{NodeId}
 use Rattle.cs_base.specs.Fields.{IsBytes}
 use Rattle.cs_tx_types.specs.declared.session.Session.{Session}
-use Rattle.cs_tx_types.specs.declared.action.Action.{Action}
+use Rattle.cs_tx_types.specs.declared.entry.Entry.{Entry}
 use Rattle.cs_wire_message.specs.declared.message.Message.{Message}
-use Rattle.cs_base.specs.declared.version.Version.TheVariants.{One}
 use Rattle.cs_wire_message.specs.Message.{MessageFits}
 use Rattle.cs_wire.specs.Opened.{Opened}
 use Rattle.cs_ledger.specs.Ledger.{Bytes}
@@ -192,8 +191,8 @@ ins-fit {M} site me (Plain sign ∷ fresh) input none fits = ins-fit site me fre
 record AreKnown {M : Type 0} (site : Site M) (known : Known) (me : NodeId) (marks : List (Mark M)) : Type 0 where
   pub fit : InsFit site me marks
   pub sessions : (x : Session) → IsIn x (given site sessions_in me marks) → IsIn x known.sessions
-  pub entries : (e : Action) → IsIn e (given site entries_in me marks) → IsIn e known.entries
-  pub proposed : (e : Action) → IsIn e (entries_proposed site marks) → IsIn e known.entries
+  pub entries : (e : Entry) → IsIn e (given site entries_in me marks) → IsIn e known.entries
+  pub proposed : (e : Entry) → IsIn e (entries_proposed site marks) → IsIn e known.entries
 
 -- the first of them is within, and the others are known
 first-known : {M : Type 0} (site : Site M) (known : Known) (me : NodeId) (mark : Mark M) (marks : List (Mark M)) → AreKnown site known me (mark ∷ marks) → IsWithinKnown site known me mark × AreKnown site known me marks
@@ -286,14 +285,14 @@ module _ {M : Type 0} (site : Site M) (known : Known) where
 
   -- what opens is within the limits
   abbrev pub OpensFit : Type 0
-  OpensFit = (me sender : NodeId) (bytes : Bytes) (said : Message) → IsBytes bytes → site.net.opened me bytes ≡ Ok (sender, said) → MessageFits One said
+  OpensFit = (me sender : NodeId) (bytes : Bytes) (said : Message) → IsBytes bytes → site.net.opened me bytes ≡ Ok (sender, said) → MessageFits site.setup.version said
 
   input-fits : (me : NodeId) (input : Input) → OpensFit → InputIsBytes input → InputFits site me input
   input-fits me (Datagram bytes) opens fits = λ sender said reads. opens me sender bytes said fits reads
   input-fits me Tick opens fits = tt
 
   pub sane : (world : List (Happening M)) → EventIsMade site → ReadsProper site → OpensFit → AreHonest site.net world → IsLife site world → AreBytes world → NoForgery site.net world
-      → ((x : Session) → IsIn x (known_sessions site world) → IsIn x known.sessions) → ((e : Action) → IsIn e (known_entries site world) → IsIn e known.entries) → IsSane world
+      → ((x : Session) → IsIn x (known_sessions site world) → IsIn x known.sessions) → ((e : Entry) → IsIn e (known_entries site world) → IsIn e known.entries) → IsSane world
   sane [] event proper opens honest life bytes genuine sessions entries = record {
     story = tt;
     level = λ i. record { made = tt; executed = refl };
@@ -301,7 +300,7 @@ module _ {M : Type 0} (site : Site M) (known : Known) where
   }
   sane (h ∷ past) event proper opens honest life bytes genuine sessions entries =
       let old_sessions = λ (x : Session) (i : IsIn x (known_sessions site past)). sessions x (in_right x (given site sessions_in h.node h.marks) (known_sessions site past) i) in
-      let old_entries = λ (e : Action) (i : IsIn e (known_entries site past)). entries e (in_right e (given site entries_in h.node h.marks) (entries_proposed site h.marks ++ known_entries site past) (in_right e (entries_proposed site h.marks) (known_entries site past) i)) in
+      let old_entries = λ (e : Entry) (i : IsIn e (known_entries site past)). entries e (in_right e (given site entries_in h.node h.marks) (entries_proposed site h.marks ++ known_entries site past) (in_right e (entries_proposed site h.marks) (known_entries site past) i)) in
       let s = sane past event proper opens honest.1 life.1 bytes.1 genuine.1 old_sessions old_entries in
       let fits = input-fits h.node h.input opens bytes.0 in
       let level = all-level h past event proper fits life.0 s.level in

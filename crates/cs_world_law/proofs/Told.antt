@@ -16,7 +16,7 @@ use Rattle.cs_node_rules.specs.Signs.{Dropped, Took, Entered, Viewed, Did, Heade
 use Rattle.cs_node_rules.specs.Site.{Mark, In, Ordered, Plain, Site, signs_of}
 use Rattle.cs_node_rules.specs.World.{Execution, steps_of, newest_of, is_after, is_recorded, all_recorded, is_voted, told_transactions, told_after}
 use Rattle.cs_node_law.proofs.Views.{me-same}
-use Rattle.cs_node_rules.proofs.Actions.{some-action}
+use Rattle.cs_node_rules.proofs.Entries.{some-action}
 use Rattle.cs_node_law.proofs.Logs.{seen, seen_log, effect-is, prepares-seen}
 use Rattle.cs_world_law.proofs.Counting.{all-in, all-from, in-concerned, concerned-in, among-item, item-among, votes-all}
 use Rattle.cs_world_law.specs.Steps.{IsComputed, AllComputed}
@@ -114,8 +114,9 @@ module _ {M : Type 0} (site : Site M) (sound : IsSoundSite site) (known : Known)
           let same : own_log node past ≡ l = own.is ∙ older-all (length (own_log node past)) l size in
           let logs : seen_log site t ≡ log node.shard (steps_of site.setup (story_firsts past)) = ap (λ z. seen site.setup z) same ∙ sym (log-seen site.setup node.shard (story_firsts past)) in
           record {
-            next = follows-newest site sound known lawful node slot place entry effect past story (λ n q there. some-action (site.entry_in q)) runs last;
+            next = follows-newest site sound known lawful node slot place entry effect past story (λ n q there. some-action site.setup.version (site.entry_in q) (sound.read q)) runs last;
             whole = site.entry_in story.0.made.proposed;
+            fits = sound.read story.0.made.proposed;
             within = story.0.made.within;
             effect = effect-is site node t slot place entry effect (story.0.made, made-all site known node past story.1)
                 ∙ ap (λ (n : NodeId). (exec site.setup.rules n.shard (table_of site.setup.rules n.shard (seen_log site t)) (entry_of site.setup entry)).effect) (me-same site node t)

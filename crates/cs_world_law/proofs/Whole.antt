@@ -1,9 +1,13 @@
 -- A world of a deployment is a story, of which the theorem on the shards together speaks.
-use Rattle.std.proofs.Common.{◌≡◌, ◌⊎◌, ◌<◌, ◌≤◌, Bool, true, List, [], ◌∷◌, ◌++◌, map, refl, sym, ap, ◌∙◌, subst, arith}
+use Rattle.std.proofs.Common.{◌≡◌, ◌⊎◌, ℕ, ◌<◌, ◌≤◌, Bool, true, length, List, [], ◌∷◌, ◌++◌, map, refl, sym, ap, ◌∙◌, subst, arith}
 use Rattle.std.specs.Prelude.{nat_lt}
 use Rattle.std.proofs.lemmas.Bool.{and_parts, ltb-true}
 use Rattle.cs_base.specs.declared.config.Config.{Config}
 use Rattle.cs_base.specs.declared.node_id.NodeId.{NodeId}
+use Rattle.cs_base.specs.declared.version.Version.{Version}
+use Rattle.cs_base.specs.declared.version.Version.TheVariants.{One}
+use Rattle.cs_tx_types.specs.Entry.{EntryFits}
+use Rattle.cs_order.specs.declared.proposed.Proposed.{Proposed}
 use Rattle.cs_base.specs.NodeId.{is_node}
 use Rattle.cs_tx_value.specs.declared.object.Object.{Object}
 use Rattle.cs_tx_types.specs.declared.transaction.Tx.{Tx}
@@ -14,12 +18,12 @@ use Rattle.cs_ledger.specs.Ledger.{Bytes}
 use Rattle.cs_ledger.specs.Table.{Abort, Accepted, Aborted}
 use Rattle.cs_ledger.specs.ShardWorld as World
 use Rattle.cs_node_rules.specs.Signs.{Did}
-use Rattle.cs_node_rules.specs.Site.{Carrier, Site, signs_of}
+use Rattle.cs_node_rules.specs.Site.{Carriers, Site, signs_of}
 use Rattle.cs_node_rules.specs.World.{Happening, Execution, trail_of, AreHonest, firsts_of, steps_of, accepts_in, aborts_in}
 use Rattle.cs_node_rules.specs.Ready.{Executed}
 use Rattle.cs_node_rules.specs.Collisions.{known_sessions, known_entries, NoCollision}
-use Rattle.cs_node_rules.specs.Carrying.{Carries}
-use Rattle.cs_node_law.specs.Made.{EventIsMade, AllMade, IsLevel}
+use Rattle.cs_node_rules.specs.Carrying.{AllCarry}
+use Rattle.cs_node_law.specs.Made.{EventIsMade, AllMade, IsLevel, ReadsProper}
 use Rattle.cs_node_rules.specs.Net.{Net}
 use Rattle.cs_world_law.specs.Worlds.{is_honest, IsWorld, IsNet, deployed_site, signs_at}
 use Rattle.cs_world_law.specs.Steps.{AllComputed, StepsComputed, executions_of, executions_in, IsOlderPart, FollowsShard}
@@ -47,8 +51,8 @@ pub record IsPlace {M : Type 0} (machine : Machine M) : Type 0 where
   pub law : Law machine
   pub holds : Holds machine
   pub event : (site : Site M) → EventIsMade site
-  pub carrier : Carrier M
-  pub carries : Carries machine carrier
+  pub carrier : Carriers M
+  pub carries : AllCarry machine carrier
   pub config : Config
   pub net : Net
   pub genesis : List Object
@@ -61,7 +65,7 @@ pub record IsPlace {M : Type 0} (machine : Machine M) : Type 0 where
 
 -- the place of such a world
 abbrev pub place : {M : Type 0} (machine : Machine M) (law : Law machine) (holds : Holds machine) (event : (site : Site M) → EventIsMade site)
-    (carrier : Carrier M) (carries : Carries machine carrier)
+    (carrier : Carriers M) (carries : AllCarry machine carrier)
     (config : Config) (net : Net) (genesis : List Object) (approves : Tx → Bool) (world : List (Happening M))
     (few : config.shards ≤ 16) (small : config.f ≤ 5) (is_net : IsNet config net) (is_world : IsWorld (deployed_site config net genesis approves machine carrier) world)
     → IsPlace machine
@@ -104,10 +108,15 @@ module _ {M : Type 0} (machine : Machine M) (p : IsPlace machine) where
     pub sound : IsSoundSite At
     sound = is-sound p.config p.net p.is_net p.genesis p.approves machine p.carrier p.law p.holds p.carries p.world some p.few p.small p.is_world
 
+    -- in version 1 each entry has one action
+    pub alone-in : At.setup.version ≡ One → (q : Proposed) → length (At.entry_in q).actions ≡ 1
+    alone-in first q = (let fits : EntryFits One (At.entry_in q) = subst (λ (v : Version). EntryFits v (At.entry_in q)) first (sound.read q) in fits.0)
+
     sane-here : IsSane At Here p.world
     sane-here =
         let w = p.is_world in
-        sane At Here p.world (p.event At) p.carries.proper (opens-fit p.config p.net p.is_net p.genesis p.approves machine p.carrier) w.honest w.life w.bytes w.genuine (λ x i. i) (λ e i. i)
+        let reads : ReadsProper At = record { messages = sound.carries.proper; entries = sound.read } in
+        sane At Here p.world (p.event At) reads (opens-fit p.config p.net p.is_net p.genesis p.approves machine p.carrier) w.honest w.life w.bytes w.genuine (λ x i. i) (λ e i. i)
 
     pub story : Story At Here (moments p.world)
     story = sane-here.story

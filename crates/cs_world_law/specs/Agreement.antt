@@ -1,9 +1,8 @@
 -- Second phase of a session: what the order of a node has done once the messages for it were taken and no rule applies.
-use Rattle.std.specs.Prelude.{◌≡◌, ℕ, ◌+◌, ◌*◌, ◌<◌, ◌≤◌, ◌⊎◌, Bool, true, not, List, length, map, Some, bytes_eq}
+use Rattle.std.specs.Prelude.{◌≡◌, ℕ, ◌+◌, ◌*◌, ◌<◌, ◌≤◌, ◌⊎◌, Bool, true, not, List, length, Some, bytes_eq}
 use Rattle.std.specs.List.{filter}
 use Rattle.cs_base.specs.declared.limits.TheConstants.{MOST_ECHOED}
 use Rattle.cs_base.specs.declared.node_id.NodeId.{NodeId}
-use Rattle.cs_tx_types.specs.declared.action.Action.{Action}
 use Rattle.cs_order.specs.Limits.{last_slot}
 use Rattle.cs_order.specs.declared.proposed.Proposed.{Proposed}
 use Rattle.cs_order_rules.specs.declared.message.OrderMessage.{OrderMessage}
@@ -18,7 +17,7 @@ use Rattle.cs_node_rules.specs.Trail.{admits_proposed}
 use Rattle.cs_node_rules.specs.World.{Happening, view_of}
 use Rattle.cs_world_law.specs.Worlds.{is_honest, signs_at}
 use Rattle.cs_world_law.specs.Shown.{executed_by}
-use Rattle.cs_world_law.specs.Orders.{slots_with_entries, IsSentToAll}
+use Rattle.cs_world_law.specs.Orders.{slots_done, proposed_in, IsSentToAll}
 
 -- how many other digests the member echoed in the open slot
 abbrev pub others_echoed : Sight → List ℕ → ℕ
@@ -59,7 +58,7 @@ pub record Agrees (admits : Proposed → Bool) (IsTold : OrderMessage → Type 0
 abbrev pub sight_at : Site OrderMessage → List (Happening OrderMessage) → NodeId → Sight
 sight_at site world i =
     let seen = sight (view_of site world i).member in
-    record seen { log = map (λ (run : ℕ × Action). site.proposed_of run.1) (slots_with_entries (executed_by i world)) }
+    record seen { log = proposed_in site (slots_done (executed_by i world)) }
 
 -- So it is of the order of each honest node, and what is told was sent to each other member.
 abbrev pub AllAgree : Site OrderMessage → List (Happening OrderMessage) → Type 0

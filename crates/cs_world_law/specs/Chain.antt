@@ -6,10 +6,12 @@ use Rattle.cs_base.specs.NodeId.{is_client, same_name}
 use Rattle.cs_tx_types.specs.declared.checkpoint.Checkpoint.{Checkpoint}
 use Rattle.cs_tx_types.specs.declared.session.Session.{Session}
 use Rattle.cs_tx_types.specs.declared.action.Action.{Action}
-use Rattle.cs_tx_types.specs.Session.{ActionFits}
+use Rattle.cs_tx_types.specs.declared.entry.Entry.{Entry}
+use Rattle.cs_tx_types.specs.Entry.{EntryFits}
+use Rattle.cs_order.specs.declared.proposed.Proposed.{Proposed}
 use Rattle.cs_wire_message.specs.declared.message.Message.{Message}
 use Rattle.cs_wire_message.specs.declared.message.Message.TheVariants as message
-use Rattle.cs_base.specs.declared.version.Version.TheVariants.{One}
+use Rattle.cs_base.specs.declared.version.Version.{Version}
 use Rattle.cs_wire_message.specs.Message.{MessageFits}
 use Rattle.cs_order.specs.Runs.{Act, FewLiars}
 use Rattle.cs_order.specs.Law.{Law, Holds}
@@ -48,20 +50,21 @@ trail_at {M} i (m ∷ past) = if same_name m.node i then m.mark ∷ trail_at i p
 -- the sessions and the entries of which the hashed strings are made
 pub record Known : Type 0 where
   pub sessions : List Session
-  pub entries : List Action
+  pub entries : List Entry
 
--- a message within the limits, of known sessions and entries
-pub record IsFine (known : Known) (said : Message) : Type 0 where
-  pub fits : MessageFits One said
+-- a message within the limits of a version, of known sessions and entries
+pub record IsFine (version : Version) (known : Known) (said : Message) : Type 0 where
+  pub fits : MessageFits version said
   pub sessions : (x : Session) → IsIn x (sessions_in said) → IsIn x known.sessions
-  pub entries : (e : Action) → IsIn e (entries_in said) → IsIn e known.entries
+  pub entries : (e : Entry) → IsIn e (entries_in said) → IsIn e known.entries
 
 -- what a node is given is fine, and what it proposes is known
 abbrev pub IsWithinKnown : {M : Type 0} → Site M → Known → NodeId → Mark M → Type 0
 IsWithinKnown {M} site known me (In (Datagram bytes)) =
-    (sender : NodeId) (said : Message) → site.net.opened me bytes ≡ Ok (sender, said) → IsFine known said
+    (sender : NodeId) (said : Message) → site.net.opened me bytes ≡ Ok (sender, said) →
+    IsFine site.setup.version known said
 IsWithinKnown {M} site known me (In Tick) = Unit {0}
-IsWithinKnown {M} site known me (Ordered deed) = (e : Action) → IsIn e (entries_of site deed) → IsIn e known.entries
+IsWithinKnown {M} site known me (Ordered deed) = (e : Entry) → IsIn e (entries_of site deed) → IsIn e known.entries
 IsWithinKnown {M} site known me (Plain sign) = Unit {0}
 
 -- the node has sent exactly this datagram
@@ -93,7 +96,7 @@ Story {M} site known (m ∷ past) = MomentFollows site known past m × Story sit
 pub record IsSoundSite {M : Type 0} (site : Site M) : Type 0 where
   pub law : Law site.machine
   pub holds : Holds site.machine
-  pub carries : Carries site.machine site.carrier
+  pub carries : Carries site.setup.version site.machine site.carrier
   pub serves : site.machine.serves site.setup.f ≡ true
   pub few : (shard : ℕ) → shard < site.setup.shards →
       FewLiars site.setup.f (λ index. is_honest site (record { shard = shard; index = index }))
@@ -103,7 +106,7 @@ pub record IsSoundSite {M : Type 0} (site : Site M) : Type 0 where
   pub apart : (name : NodeId) → is_honest site name ≡ true → is_client name ≡ false
   -- what opens is the message that was sealed; of a slot that is asked for and of a checkpoint the numbers may be cut
   pub exact : (from to sender : NodeId) (m said : Message) →
-      is_honest site from ≡ true → is_honest site to ≡ true → MessageFits One m →
+      is_honest site from ≡ true → is_honest site to ≡ true → MessageFits site.setup.version m →
       site.net.opened to (sealed_by_net site.net from to m) ≡ Ok (sender, said) → said ≡ m
   pub wanted : (from to sender : NodeId) (slot : ℕ) (said : Message) →
       is_honest site from ≡ true → is_honest site to ≡ true →
@@ -114,15 +117,19 @@ pub record IsSoundSite {M : Type 0} (site : Site M) : Type 0 where
       site.net.opened to (sealed_by_net site.net from to (message.Head c)) ≡ Ok (sender, said) →
       (other : Checkpoint) × (said ≡ message.Head other)
   -- entries are proposed as they are written, and read back
-  pub proposes : (entry : Action) → site.proposed_of entry ≡ proposed_of entry
-  pub reads : (entry : Action) → ActionFits entry → site.entry_in (proposed_of entry) ≡ entry
+  pub proposes : (entry : Entry) → site.proposed_of entry ≡ proposed_of site.setup.version entry
+  pub reads : (entry : Entry) → EntryFits site.setup.version entry →
+      site.entry_in (proposed_of site.setup.version entry) ≡ entry
+  -- what is read of any bytes has an encoding
+  pub read : (proposed : Proposed) → EntryFits site.setup.version (site.entry_in proposed)
   pub bound : (name : Bytes) → site.setup.rules.shard_of name < site.setup.shards
 
--- no two known entries have one digest
-abbrev pub IsUnique : List Action → Type 0
-IsUnique entries =
-    (a b : Action) → IsIn a entries → IsIn b entries →
-    (proposed_of a).digest ≡ (proposed_of b).digest → (proposed_of a).bytes ≡ (proposed_of b).bytes
+-- no two known entries have one digest in a version
+abbrev pub IsUnique : Version → List Entry → Type 0
+IsUnique version entries =
+    (a b : Entry) → IsIn a entries → IsIn b entries →
+    (proposed_of version a).digest ≡ (proposed_of version b).digest →
+    (proposed_of version a).bytes ≡ (proposed_of version b).bytes
 
 -- ---- what is read off a story
 

@@ -1,11 +1,13 @@
 -- What an honest node does of what its order chose and handed out.
-use Rattle.std.specs.Prelude.{◌≡◌, ℕ, suc, true, List, [], ◌∷◌, ◌++◌, map, Option, Some, None}
+use Rattle.std.specs.Prelude.{◌≡◌, ℕ, suc, ◌==◌, true, if◌then◌else◌, List, [], ◌∷◌, ◌++◌, map, Option, Some, None}
 use Rattle.cs_base.specs.declared.node_id.NodeId.{NodeId}
 use Rattle.cs_tx_types.specs.declared.action.Action.{Action}
+use Rattle.cs_tx_types.specs.declared.entry.Entry.{Entry}
+use Rattle.cs_tx_types.specs.Entry.{entry_of}
+use Rattle.cs_order.specs.declared.proposed.Proposed.{Proposed}
 use Rattle.cs_order.specs.declared.answers.Outgoing.{Outgoing}
 use Rattle.cs_order.specs.Deeds.{Deed, sent_by, chosen_in}
 use Rattle.cs_base.specs.Lists.{IsIn}
-use Rattle.cs_node_state.specs.Setup.{actions_of}
 use Rattle.cs_node_rules.specs.Members.{others}
 use Rattle.cs_node_rules.specs.Signs.{Sign, Sent}
 use Rattle.cs_node_rules.specs.Site.{Site}
@@ -14,10 +16,21 @@ use Rattle.cs_world_law.specs.Worlds.{is_honest, signs_at}
 use Rattle.cs_world_law.specs.Steps.{Run}
 use Rattle.cs_world_law.specs.Shown.{executed_by}
 
--- their slots with the entries, the oldest first
-abbrev pub slots_with_entries : List Execution → List (ℕ × Action)
-slots_with_entries [] = []
-slots_with_entries (e ∷ earlier) = slots_with_entries earlier ++ (e.slot, e.entry) ∷ []
+-- one action more, of the newest slot or of a new one; slots are newest first, and actions of a slot oldest first
+abbrev pub with_run : ℕ → Action → List (ℕ × List Action) → List (ℕ × List Action)
+with_run slot action [] = (slot, action ∷ []) ∷ []
+with_run slot action (s ∷ earlier) =
+    if s.0 == slot then (s.0, s.1 ++ action ∷ []) ∷ earlier else (slot, action ∷ []) ∷ s ∷ earlier
+
+-- the slots with what was executed of each, the newest first
+abbrev pub slots_done : List Execution → List (ℕ × List Action)
+slots_done [] = []
+slots_done (e ∷ earlier) = with_run e.slot e.entry (slots_done earlier)
+
+-- the entries of such slots, as they are proposed, the oldest first
+abbrev pub proposed_in : {M : Type 0} → Site M → List (ℕ × List Action) → List Proposed
+proposed_in {M} site [] = []
+proposed_in {M} site (s ∷ earlier) = proposed_in site earlier ++ site.proposed_of (entry_of s.1) ∷ []
 
 -- their actions in their places, the oldest first
 abbrev pub runs_done : List Execution → List Run
@@ -31,9 +44,9 @@ runs_from slot place (action ∷ more) =
     record { slot = slot; place = place; action = action } ∷ runs_from slot (suc place) more
 
 -- the actions of entries in their places, from a slot on
-abbrev pub runs_of : ℕ → List Action → List Run
+abbrev pub runs_of : ℕ → List Entry → List Run
 runs_of slot [] = []
-runs_of slot (entry ∷ more) = runs_from slot 0 (actions_of entry) ++ runs_of (suc slot) more
+runs_of slot (entry ∷ more) = runs_from slot 0 entry.actions ++ runs_of (suc slot) more
 
 -- Each honest node has executed what its order chose: slot by slot, from slot 0 on, each action in its place, and
 -- nothing else.

@@ -28,10 +28,10 @@ leaves_of (e ∷ earlier) = leaves_of earlier ++ leaf_by e ∷ []
 abbrev pub executed_by : {M : Type 0} → NodeId → List (Happening M) → List Execution
 executed_by {M} i world = executions_in i.shard (signs_at i world)
 
--- Each honest node makes its checkpoints of the leaves of what it executed, and of no others.
+-- In version 1 each honest node makes its checkpoints of the leaves of what it executed, and of no others.
 abbrev pub KeepsExecuted : {M : Type 0} → Site M → List (Happening M) → Type 0
 KeepsExecuted {M} site world =
-    (i : NodeId) → is_honest site i ≡ true →
+    site.setup.version ≡ One → (i : NodeId) → is_honest site i ≡ true →
     (view_of site world i).bench.log.leaves ≡ map (leaf_encoding One) (leaves_of (executed_by i world))
 
 -- the strings that are hashed for a node's checkpoint of that number, and for a proof, don't collide
@@ -40,9 +40,11 @@ NoHeadCollision {M} site world i number proof =
     let log = (view_of site world i).bench.log in
     NoProofCollision (checkpoint_of log number) (covered_leaves log number) proof
 
--- While slots fit into 64 bits, what is shown under a head that an honest node noted is what that node executed.
+-- In version 1, while slots fit into 64 bits, what is shown under a head that an honest node noted is what that node
+-- executed.
 abbrev pub ShowsExecuted : {M : Type 0} → Site M → List (Happening M) → Type 0
 ShowsExecuted {M} site world =
+    site.setup.version ≡ One →
     (i : NodeId) (number : ℕ) (head : Bytes) (proof : Proof) → is_honest site i ≡ true →
     length (executed_by i world) ≤ 2 ^ 64 → IsIn (Headed number head) (signs_at i world) →
     ProofFits One proof → NoHeadCollision site world i number proof → Shows head proof →

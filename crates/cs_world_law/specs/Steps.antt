@@ -4,10 +4,12 @@ use Rattle.cs_base.specs.Lists.{IsIn}
 use Rattle.cs_base.specs.declared.node_id.NodeId.{NodeId}
 use Rattle.cs_tx_types.specs.declared.session.Session.{Session}
 use Rattle.cs_tx_types.specs.declared.action.Action.{Action}
+use Rattle.cs_tx_types.specs.declared.entry.Entry.{Entry}
+use Rattle.cs_tx_types.specs.Entry.{EntryFits}
 use Rattle.cs_ledger.specs.Ledger.{Bytes}
 use Rattle.cs_ledger.specs.Table.{Vote, Effect, Accepted, table_of, exec}
 use Rattle.cs_ledger.specs.ShardWorld.{log, AllAllowed}
-use Rattle.cs_node_state.specs.Setup.{Setup, actions_of, digest_of, is_concerned_shard, entry_of}
+use Rattle.cs_node_state.specs.Setup.{Setup, digest_of, is_concerned_shard, entry_of}
 use Rattle.cs_tx_types.specs.Session.{session_in}
 use Rattle.cs_node_rules.specs.Signs.{Sign, Dropped, Took, Entered, Viewed, Did, Headed, Kept, Sent}
 use Rattle.cs_node_rules.specs.Site.{Site}
@@ -35,11 +37,13 @@ Follows slot place None = (slot ≡ 0) × (place ≡ 0)
 Follows slot place (Some e) =
     ((slot ≡ e.slot) × (place ≡ suc e.place)) ⊎ ((slot ≡ suc e.slot) × (place ≡ 0))
 
--- it is the next action of its shard, in its place of an entry, and its result is what it comes to there
+-- it is the next action of its shard, in its place of an entry that has an encoding, and its result is what it comes to
+-- there
 pub record IsComputed (setup : Setup) (earlier : List Execution) (e : Execution) : Type 0 where
   pub next : Follows e.slot e.place (newest_of e.shard earlier)
-  pub whole : Action
-  pub within : slice_get (actions_of whole) e.place ≡ Some e.entry
+  pub whole : Entry
+  pub fits : EntryFits setup.version whole
+  pub within : slice_get whole.actions e.place ≡ Some e.entry
   pub effect : e.effect ≡ effect_after setup earlier e.shard e.entry
 
 abbrev pub AllComputed : Setup → List Execution → Type 0

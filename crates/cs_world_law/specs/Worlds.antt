@@ -5,11 +5,12 @@ use Rattle.cs_base.specs.Lists.{IsIn}
 use Rattle.cs_base.specs.declared.config.Config.{Config}
 use Rattle.cs_base.specs.declared.node_id.NodeId.{NodeId}
 use Rattle.cs_base.specs.NodeId.{is_node, same_name}
-use Rattle.cs_base.specs.declared.version.Version.TheVariants.{One}
+use Rattle.cs_base.specs.Version.{version_of}
 use Rattle.cs_tx_value.specs.declared.object.Object.{Object}
 use Rattle.cs_tx_types.specs.declared.transaction.Tx.{Tx}
 use Rattle.cs_tx_types.specs.declared.session.Session.{Session}
 use Rattle.cs_tx_types.specs.declared.action.Action.{Action}
+use Rattle.cs_tx_types.specs.declared.entry.Entry.{Entry}
 use Rattle.cs_tx_types.specs.Session.{ActionFits, session_in}
 use Rattle.cs_tx.specs.Sessions.{ledger_session}
 use Rattle.cs_wire.specs.declared.keys.Row.{Row}
@@ -24,13 +25,13 @@ use Rattle.cs_ledger.specs.Session as Seen
 use Rattle.cs_ledger.specs.Table.{table_of, free_object}
 use Rattle.cs_ledger.specs.ShardWorld.{log}
 use Rattle.cs_node_state.specs.Setup.{digest_of, entry_of}
-use Rattle.cs_node_rules.specs.Net.{Net, in_first}
+use Rattle.cs_node_rules.specs.Net.{Net, in_version}
 use Rattle.cs_node_rules.specs.Signs.{Sign}
-use Rattle.cs_node_rules.specs.Site.{Carrier, Site, signs_of}
+use Rattle.cs_node_rules.specs.Site.{Carriers, Site, signs_of}
 use Rattle.cs_node_rules.specs.World.{Happening, trail_of, view_of, IsLife, AreHonest, NoForgery, firsts_of, steps_of, count_executed, recorded_history, accepts_in, aborts_in}
 use Rattle.cs_node_rules.specs.Ready.{Executed, VotesFree, AcceptsLocked}
 use Rattle.cs_node_rules.specs.Collisions.{known_sessions, known_entries, NoCollision}
-use Rattle.cs_node_rules.specs.Carrying.{Carries}
+use Rattle.cs_node_rules.specs.Carrying.{AllCarry}
 use Rattle.cs_node_rules.specs.Deployment.{site_of}
 use Rattle.cs_node_state.specs.Deployed.{setup_of}
 use Rattle.cs_node_law.specs.Made.{log_in}
@@ -77,14 +78,15 @@ ExecutesGiven {M} site world =
     (i : NodeId) (entry : Action) → Executed (signs_at i world) entry →
     IsIn (session_in entry) (known_sessions site world)
 
--- Each entry that an honest node executed has an encoding.
+-- Each action that an honest node executed has an encoding.
 abbrev pub ExecutesFit : {M : Type 0} → Site M → List (Happening M) → Type 0
 ExecutesFit {M} site world = (i : NodeId) (entry : Action) → Executed (signs_at i world) entry → ActionFits entry
 
--- Each entry that an honest node executed stood in an input, or was proposed by an honest node.
+-- Each action that an honest node executed is one of an entry that stood in an input, or that an honest node proposed.
 abbrev pub ExecutesKnown : {M : Type 0} → Site M → List (Happening M) → Type 0
 ExecutesKnown {M} site world =
-    (i : NodeId) (entry : Action) → Executed (signs_at i world) entry → IsIn entry (known_entries site world)
+    (i : NodeId) (action : Action) → Executed (signs_at i world) action →
+    (entry : Entry) × (IsIn entry (known_entries site world)) × (IsIn action entry.actions)
 
 -- Each transaction that an honest node accepted is in the history.
 abbrev pub TellsAccepted : {M : Type 0} → Site M → List (Happening M) → Type 0
@@ -138,53 +140,57 @@ AllAcceptLocked {M} site world =
 
 -- ---- of all worlds
 
--- A net of a configuration in version 1: its honest names are nodes, each name opens under keys of its own, and what one
--- seals for another is sealed under a key between them. Nothing else is asked of the keys.
+-- A net of a configuration in its version: its honest names are nodes, each name opens under keys of its own, and what
+-- one seals for another is sealed under a key between them. Nothing else is asked of the keys.
 pub record IsNet (config : Config) (net : Net) : Type 0 where
   pub nodes : (name : NodeId) → net.is_honest name ≡ true → is_node config name ≡ true
   pub keys : NodeId → Keys
-  pub version : (me : NodeId) → (keys me).version ≡ One
+  pub version : net.version ≡ version_of config.version
+  pub editions : (me : NodeId) → (keys me).version ≡ version_of config.version
   pub opens : (me : NodeId) (bytes : Bytes) → net.opened me bytes ≡ opened (keys me) bytes
   pub key : NodeId → NodeId → Bytes
   pub seals : (from to : NodeId) (kind : ℕ) (body : Bytes) →
-      net.datagram from to kind body ≡ datagram_with One (key from to) from to kind body
+      net.datagram from to kind body
+      ≡ datagram_with (version_of config.version) (key from to) from to kind body
 
 -- the key under which a name seals for another, by its row for it
 abbrev pub key_held : Option Row → Bytes
 key_held None = []
 key_held (Some row) = row.to
 
--- the net, in version 1, of nodes and clients that each hold keys of their own, of which these nodes lie
+-- the net, in its version, of nodes and clients that each hold keys of their own, of which these nodes lie
 abbrev pub net_of_keys : Config → (NodeId → Keys) → List NodeId → Net
 net_of_keys config keys liars = record {
-  datagram = λ from to kind body. datagram_with One (key_held (row_of to (keys from))) from to kind body;
-  opened = λ me bytes. opened (in_first (keys me)) bytes;
+  version = version_of config.version;
+  datagram = λ from to kind body.
+      datagram_with (version_of config.version) (key_held (row_of to (keys from))) from to kind body;
+  opened = λ me bytes. opened (in_version (version_of config.version) (keys me)) bytes;
   is_honest = λ name. is_node config name && not (list_any (λ liar. same_name liar name) liars);
 }
 
 -- the site of a deployment over a net, whose order keeps these rules, and whose judge approves so
-abbrev pub deployed_site : {M : Type 0} → Config → Net → List Object → (Tx → Bool) → Machine M → Carrier M → Site M
-deployed_site {M} config net genesis approves machine carrier =
-    site_of (setup_of config genesis (ledger_session approves)) net machine carrier
+abbrev pub deployed_site : {M : Type 0} → Config → Net → List Object → (Tx → Bool) → Machine M → Carriers M → Site M
+deployed_site {M} config net genesis approves machine carriers =
+    site_of (setup_of config genesis (ledger_session approves)) net machine carriers
 
 -- It is true of the worlds of every deployment of at most 16 shards under these rules, over any net.
 abbrev pub OfWorlds : {M : Type 0} → Machine M → (Site M → List (Happening M) → Type 0) → Type 0
 OfWorlds {M} machine Says =
-    (carrier : Carrier M) → Carries machine carrier →
+    (carriers : Carriers M) → AllCarry machine carriers →
     (config : Config) (net : Net) (genesis : List Object) (approves : Tx → Bool) (world : List (Happening M)) →
     config.shards ≤ 16 → config.f ≤ 5 → IsNet config net →
-    IsWorld (deployed_site config net genesis approves machine carrier) world →
-    Says (deployed_site config net genesis approves machine carrier) world
+    IsWorld (deployed_site config net genesis approves machine carriers) world →
+    Says (deployed_site config net genesis approves machine carriers) world
 
 -- It is true of those in which, besides, no two hashed strings collide.
 abbrev pub OfWorldsApart : {M : Type 0} → Machine M → (Site M → List (Happening M) → Type 0) → Type 0
 OfWorldsApart {M} machine Says =
-    (carrier : Carrier M) → Carries machine carrier →
+    (carriers : Carriers M) → AllCarry machine carriers →
     (config : Config) (net : Net) (genesis : List Object) (approves : Tx → Bool) (world : List (Happening M)) →
     config.shards ≤ 16 → config.f ≤ 5 → IsNet config net →
-    IsWorld (deployed_site config net genesis approves machine carrier) world →
-    NoCollision (deployed_site config net genesis approves machine carrier) genesis world →
-    Says (deployed_site config net genesis approves machine carrier) world
+    IsWorld (deployed_site config net genesis approves machine carriers) world →
+    NoCollision (deployed_site config net genesis approves machine carriers) genesis world →
+    Says (deployed_site config net genesis approves machine carriers) world
 
 -- It is true of those in which no node may lie.
 abbrev pub OfWorldsAlone : {M : Type 0} → Machine M → (Site M → List (Happening M) → Type 0) → Type 0

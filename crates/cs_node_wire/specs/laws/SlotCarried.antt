@@ -3,25 +3,18 @@ use Rattle.std.proofs.Common.{◌≡◌, ℕ, nat_le, nat_lt, Bool, true, false,
 use Rattle.std.specs.List.{list_all}
 use Rattle.std.proofs.lemmas.Bool.{and_parts, and_from}
 use Rattle.cs_base.specs.declared.limits.TheConstants.{MOST_ECHOED}
-use Rattle.cs_base.specs.Fields.{IsBytes}
-use Rattle.cs_base.proofs.Forms.{whole-takes, whole-again, some_is}
-use Rattle.cs_tx_types.specs.declared.action.Action.{Action}
-use Rattle.cs_tx_types.specs.Session.{action_encoding, ActionFits}
-use Rattle.cs_tx_types.specs.Reading.{action_at}
-use Rattle.cs_tx_types.specs.laws.Session.{action_form}
+use Rattle.cs_base.proofs.Forms.{some_is}
 use Rattle.cs_tx_types.specs.declared.entry.Entry.{Entry}
-use Rattle.cs_tx_types.specs.Entry.{entry_alone}
 use Rattle.cs_wire_message.specs.declared.change.Change.{Change}
 use Rattle.cs_wire_message.specs.declared.message.Message.{Message}
 use Rattle.cs_wire_message.specs.declared.message.Message.TheVariants as message
-use Rattle.cs_base.specs.declared.version.Version.TheVariants.{One}
+use Rattle.cs_base.specs.declared.version.Version.{Version}
 use Rattle.cs_wire_message.specs.Message.{PreparedFits, is_after_last, Rise, IsSlot, IsView, MessageFits}
-use Rattle.cs_wire_message.proofs.Spelled.{entry-bytes}
 use Rattle.cs_base.specs.Lists.{IsIn}
 use Rattle.cs_order.specs.Limits.{last_slot, view_bound}
 use Rattle.cs_order.specs.declared.proposed.Proposed.{Proposed}
-use Rattle.cs_order.specs.Digests.{are_bytes, digest_fits}
-use Rattle.cs_order.specs.laws.Digests.{bytes-pass, bytes-are, digest-passes, digest-is}
+use Rattle.cs_order.specs.Digests.{digest_fits}
+use Rattle.cs_order.specs.laws.Digests.{digest-passes, digest-is}
 use Rattle.cs_order_rules.specs.declared.message.Change.{Change as OrderChange}
 use Rattle.cs_order_rules.specs.declared.message.OrderMessage.{OrderMessage}
 use Rattle.cs_order_rules.specs.declared.message.OrderMessage.TheVariants as order
@@ -29,10 +22,10 @@ use Rattle.cs_order_rules.specs.Facts.{rises, is_below, pair_below, is_place, pr
 use Rattle.cs_order_rules.specs.SlotMachine.{slot_machine}
 use Rattle.cs_order_law.specs.laws.Lines.{is_before, before_trans}
 use Rattle.cs_node_rules.specs.Collisions.{entries_in}
-use Rattle.cs_node_rules.specs.Deployment.{proposed_of}
-use Rattle.cs_node_rules.specs.Carrying.{is_ordering, IsEntry, Carries}
-use Rattle.cs_node_wire.specs.Proposals.{entry_read, entry_spelled}
-use Rattle.cs_node_wire.specs.SlotCarried.{blank, proposal_written, done_written, change_written, kind_written, slot_written, alone, proposal_read, done_read, slot_read, slot_carrier}
+use Rattle.cs_node_rules.specs.Deployment.{proposed_of, entry_read}
+use Rattle.cs_node_rules.specs.Carrying.{is_ordering, IsEntry, AllCarry}
+use Rattle.cs_node_rules.proofs.Entries.{read-fits, read-again}
+use Rattle.cs_node_wire.specs.SlotCarried.{blank, proposal_written, done_written, change_written, kind_written, slot_written, slot_read, slot_carrier}
 
 -- ---- the limits of an order's messages are those of the messages of nodes
 
@@ -111,18 +104,18 @@ below-from view last (line ∷ lines) rise =
 
 -- a proper message is within the limits, where its entry is
 
-step-fits : (slot view : ℕ) (digest : List ℕ) → (is_place slot view && digest_fits digest) ≡ true → MessageFits One (message.Echo slot view digest)
-step-fits slot view digest h =
+step-fits : (version : Version) (slot view : ℕ) (digest : List ℕ) → (is_place slot view && digest_fits digest) ≡ true → MessageFits version (message.Echo slot view digest)
+step-fits version slot view digest h =
     let p = and_parts (is_place slot view) (digest_fits digest) h in
     let place = place-fits slot view p.0 in
     (place.0, (place.1, digest-is digest p.1))
 
-fits-step : (slot view : ℕ) (digest : List ℕ) → MessageFits One (message.Echo slot view digest) → (is_place slot view && digest_fits digest) ≡ true
-fits-step slot view digest h =
+fits-step : (version : Version) (slot view : ℕ) (digest : List ℕ) → MessageFits version (message.Echo slot view digest) → (is_place slot view && digest_fits digest) ≡ true
+fits-step version slot view digest h =
     and_from (is_place slot view) (digest_fits digest) (fits-place slot view h.0 h.1.0) (digest-passes digest h.1.1)
 
-change-fits : (slot view : ℕ) (c : OrderChange) → proper (order.Change slot view c) ≡ true → MessageFits One (message.Change slot view (change_written c))
-change-fits slot view c h =
+change-fits : (version : Version) (slot view : ℕ) (c : OrderChange) → proper (order.Change slot view c) ≡ true → MessageFits version (message.Change slot view (change_written c))
+change-fits version slot view c h =
     let few = nat_le (length c.echoed) MOST_ECHOED in
     let p = and_parts (is_place slot view && (nat_lt 0 view && pair_below view c.prepared)) ((rises c.echoed && few) && all_below view c.echoed) h in
     let q = and_parts (is_place slot view) (nat_lt 0 view && pair_below view c.prepared) p.0 in
@@ -144,8 +137,8 @@ change-fits slot view c h =
       ),
     )
 
-fits-change : (slot view : ℕ) (c : OrderChange) → MessageFits One (message.Change slot view (change_written c)) → proper (order.Change slot view c) ≡ true
-fits-change slot view c h =
+fits-change : (version : Version) (slot view : ℕ) (c : OrderChange) → MessageFits version (message.Change slot view (change_written c)) → proper (order.Change slot view c) ≡ true
+fits-change version slot view c h =
     let fits = h.1.1.1 in
     and_from _ _
     (and_from _ _ (fits-place slot view h.0 h.1.0) (and_from _ _ (lt-ltb 0 view h.1.1.0) (fits-pair view c.prepared fits.prepared)))
@@ -153,193 +146,149 @@ fits-change slot view c h =
 
 -- ---- entries
 
-spelled-fits : (p : Proposed) (entry : Action) → entry_spelled p ≡ Some entry → ActionFits entry
-spelled-fits p entry h = by_bytes (are_bytes p.bytes) refl h
-  where
-    by_bytes : (b : Bool) → are_bytes p.bytes ≡ b → (if b then entry_read p else None) ≡ Some entry → ActionFits entry
-    by_bytes true pass k = (whole-takes action_encoding ActionFits action_at action_form p.bytes entry (bytes-are p.bytes pass) k).0
-    by_bytes false pass k = (let q : None ≡ Some entry = k in cc)
+module _ (version : Version) where
+  spelled : (p : Proposed) (is : IsEntry version p) → entry_read version p ≡ Some is.entry
+  spelled p is = ap (entry_read version) is.is ∙ read-again version is.entry is.fits
 
-spelled-again : (entry : Action) → ActionFits entry → entry_spelled (proposed_of entry) ≡ Some entry
-spelled-again entry fits =
-    ap (λ b. if b then entry_read (proposed_of entry) else None) (bytes-pass (action_encoding entry) (entry-bytes One (entry_alone entry) (refl, (fits, tt))))
-    ∙ whole-again action_encoding ActionFits action_at action_form entry fits
+  -- ---- what is written fits
 
-spelled : (p : Proposed) (is : IsEntry p) → entry_spelled p ≡ Some is.entry
-spelled p is = ap entry_spelled is.is ∙ spelled-again is.entry is.fits
+  blank-fits : MessageFits version blank
+  blank-fits = omega arith
 
--- ---- what is written fits
+  proposal-fits : (slot view : ℕ) (p : Proposed) (o : Option Entry) → is_place slot view ≡ true → entry_read version p ≡ o → MessageFits version (proposal_written slot view o)
+  proposal-fits slot view p None place is = blank-fits
+  proposal-fits slot view p (Some entry) place is =
+      let fits = place-fits slot view place in
+      (fits.0, (fits.1, read-fits version p entry is))
 
-blank-fits : MessageFits One blank
-blank-fits = omega arith
+  done-fits : (slot : ℕ) (p : Proposed) (o : Option Entry) → is_place slot 0 ≡ true → entry_read version p ≡ o → MessageFits version (done_written slot o)
+  done-fits slot p None place is = blank-fits
+  done-fits slot p (Some entry) place is = ((place-fits slot 0 place).0, read-fits version p entry is)
 
-proposal-fits : (slot view : ℕ) (p : Proposed) (o : Option Action) → is_place slot view ≡ true → entry_spelled p ≡ o → MessageFits One (proposal_written slot view o)
-proposal-fits slot view p None place is = blank-fits
-proposal-fits slot view p (Some entry) place is =
-    let fits = place-fits slot view place in
-    (fits.0, (fits.1, (refl, (spelled-fits p entry is, tt))))
+  kind-fits : (m : OrderMessage) → proper m ≡ true → MessageFits version (kind_written version m)
+  kind-fits (order.Propose slot view p) h = proposal-fits slot view p (entry_read version p) h refl
+  kind-fits (order.Echo slot view digest) h = step-fits version slot view digest h
+  kind-fits (order.Confirm slot view digest) h = step-fits version slot view digest h
+  kind-fits (order.Change slot view c) h = change-fits version slot view c h
+  kind-fits (order.Done slot p) h = done-fits slot p (entry_read version p) h refl
 
-done-fits : (slot : ℕ) (p : Proposed) (o : Option Action) → is_place slot 0 ≡ true → entry_spelled p ≡ o → MessageFits One (done_written slot o)
-done-fits slot p None place is = blank-fits
-done-fits slot p (Some entry) place is = ((place-fits slot 0 place).0, (refl, (spelled-fits p entry is, tt)))
+  fits-by : (m : OrderMessage) (b : Bool) → proper m ≡ b → MessageFits version (if b then kind_written version m else blank)
+  fits-by m true h = kind-fits m h
+  fits-by m false h = blank-fits
 
-kind-fits : (m : OrderMessage) → proper m ≡ true → MessageFits One (kind_written m)
-kind-fits (order.Propose slot view p) h = proposal-fits slot view p (entry_spelled p) h refl
-kind-fits (order.Echo slot view digest) h = step-fits slot view digest h
-kind-fits (order.Confirm slot view digest) h = step-fits slot view digest h
-kind-fits (order.Change slot view c) h = change-fits slot view c h
-kind-fits (order.Done slot p) h = done-fits slot p (entry_spelled p) h refl
+  -- ---- what is written was tested by the limits of messages
 
-fits-by : (m : OrderMessage) (b : Bool) → proper m ≡ b → MessageFits One (if b then kind_written m else blank)
-fits-by m true h = kind-fits m h
-fits-by m false h = blank-fits
+  fits-proposal : (slot view : ℕ) (o : Option Entry) → MessageFits version (proposal_written slot view o) → (is_place slot view ≡ true) ⊎ (proposal_written slot view o ≡ blank)
+  fits-proposal slot view None fits = inr refl
+  fits-proposal slot view (Some entry) fits = inl (fits-place slot view fits.0 fits.1.0)
 
--- ---- what is written was tested by the limits of messages
+  fits-done : (slot : ℕ) (o : Option Entry) → MessageFits version (done_written slot o) → (is_place slot 0 ≡ true) ⊎ (done_written slot o ≡ blank)
+  fits-done slot None fits = inr refl
+  fits-done slot (Some entry) fits = inl (fits-place slot 0 fits.0 (omega arith))
 
-fits-proposal : (slot view : ℕ) (o : Option Action) → MessageFits One (proposal_written slot view o) → (is_place slot view ≡ true) ⊎ (proposal_written slot view o ≡ blank)
-fits-proposal slot view None fits = inr refl
-fits-proposal slot view (Some entry) fits = inl (fits-place slot view fits.0 fits.1.0)
+  fits-kind : (m : OrderMessage) → MessageFits version (kind_written version m) → (proper m ≡ true) ⊎ (kind_written version m ≡ blank)
+  fits-kind (order.Propose slot view p) fits = fits-proposal slot view (entry_read version p) fits
+  fits-kind (order.Echo slot view digest) fits = inl (fits-step version slot view digest fits)
+  fits-kind (order.Confirm slot view digest) fits = inl (fits-step version slot view digest fits)
+  fits-kind (order.Change slot view c) fits = inl (fits-change version slot view c fits)
+  fits-kind (order.Done slot p) fits = fits-done slot (entry_read version p) fits
 
-fits-done : (slot : ℕ) (o : Option Action) → MessageFits One (done_written slot o) → (is_place slot 0 ≡ true) ⊎ (done_written slot o ≡ blank)
-fits-done slot None fits = inr refl
-fits-done slot (Some entry) fits = inl (fits-place slot 0 fits.0 (omega arith))
+  -- what fits is written as it is
+  pub fitting-is : (m : OrderMessage) → MessageFits version (kind_written version m) → kind_written version m ≡ slot_written version m
+  fitting-is m fits = by_test (proper m) refl
+    where
+      by_test : (b : Bool) → proper m ≡ b → kind_written version m ≡ (if b then kind_written version m else blank)
+      by_test true h = refl
+      by_test false h = elim (fits-kind m fits) [ inl is ↦ absurd (let q : true ≡ false = sym is ∙ h in cc) | inr is ↦ is ]
 
-fits-kind : (m : OrderMessage) → MessageFits One (kind_written m) → (proper m ≡ true) ⊎ (kind_written m ≡ blank)
-fits-kind (order.Propose slot view p) fits = fits-proposal slot view (entry_spelled p) fits
-fits-kind (order.Echo slot view digest) fits = inl (fits-step slot view digest fits)
-fits-kind (order.Confirm slot view digest) fits = inl (fits-step slot view digest fits)
-fits-kind (order.Change slot view c) fits = inl (fits-change slot view c fits)
-fits-kind (order.Done slot p) fits = fits-done slot (entry_spelled p) fits
+  -- what doesn't is not written
+  pub unfitting-is : (m : OrderMessage) → (MessageFits version (kind_written version m) → ⊥) → blank ≡ slot_written version m
+  unfitting-is m fails = by_test (proper m) refl
+    where
+      by_test : (b : Bool) → proper m ≡ b → blank ≡ (if b then kind_written version m else blank)
+      by_test true h = absurd (fails (kind-fits m h))
+      by_test false h = refl
 
--- what fits is written as it is
-pub fitting-is : (m : OrderMessage) → MessageFits One (kind_written m) → kind_written m ≡ slot_written m
-fitting-is m fits = by_test (proper m) refl
-  where
-    by_test : (b : Bool) → proper m ≡ b → kind_written m ≡ (if b then kind_written m else blank)
-    by_test true h = refl
-    by_test false h = elim (fits-kind m fits) [ inl is ↦ absurd (let q : true ≡ false = sym is ∙ h in cc) | inr is ↦ is ]
+  -- ---- a proper message of entries is carried, and read as it was
 
--- what doesn't is not written
-pub unfitting-is : (m : OrderMessage) → (MessageFits One (kind_written m) → ⊥) → blank ≡ slot_written m
-unfitting-is m fails = by_test (proper m) refl
-  where
-    by_test : (b : Bool) → proper m ≡ b → blank ≡ (if b then kind_written m else blank)
-    by_test true h = absurd (fails (kind-fits m h))
-    by_test false h = refl
+  abbrev AreEntries : OrderMessage → Type 0
+  AreEntries m = (p : Proposed) → IsIn p (carried m) → IsEntry version p
 
--- ---- a proper message of entries is carried, and read as it was
+  written-is : (m : OrderMessage) → proper m ≡ true → slot_written version m ≡ kind_written version m
+  written-is m h = ap (λ b. if b then kind_written version m else blank) h
 
-abbrev AreEntries : OrderMessage → Type 0
-AreEntries m = (p : Proposed) → IsIn p (carried m) → IsEntry p
+  kind-ours : (m : OrderMessage) → AreEntries m → is_ordering (kind_written version m) ≡ true
+  kind-ours (order.Propose slot view p) entries = ap (λ o. is_ordering (proposal_written slot view o)) (spelled p (entries p (inl refl)))
+  kind-ours (order.Echo slot view digest) entries = refl
+  kind-ours (order.Confirm slot view digest) entries = refl
+  kind-ours (order.Change slot view c) entries = refl
+  kind-ours (order.Done slot p) entries = ap (λ o. is_ordering (done_written slot o)) (spelled p (entries p (inl refl)))
 
-written-is : (m : OrderMessage) → proper m ≡ true → slot_written m ≡ kind_written m
-written-is m h = ap (λ b. if b then kind_written m else blank) h
+  kind-back : (m : OrderMessage) → AreEntries m → slot_read version (kind_written version m) ≡ Some m
+  kind-back (order.Propose slot view p) entries =
+      let is = entries p (inl refl) in
+      ap (λ o. slot_read version (proposal_written slot view o)) (spelled p is)
+      ∙ ap (λ (q : Proposed). Some (order.Propose slot view q)) (sym is.is)
+  kind-back (order.Echo slot view digest) entries = refl
+  kind-back (order.Confirm slot view digest) entries = refl
+  kind-back (order.Change slot view c) entries = refl
+  kind-back (order.Done slot p) entries =
+      let is = entries p (inl refl) in
+      ap (λ o. slot_read version (done_written slot o)) (spelled p is)
+      ∙ ap (λ (q : Proposed). Some (order.Done slot q)) (sym is.is)
 
-kind-ours : (m : OrderMessage) → AreEntries m → is_ordering (kind_written m) ≡ true
-kind-ours (order.Propose slot view p) entries = ap (λ o. is_ordering (proposal_written slot view o)) (spelled p (entries p (inl refl)))
-kind-ours (order.Echo slot view digest) entries = refl
-kind-ours (order.Confirm slot view digest) entries = refl
-kind-ours (order.Change slot view c) entries = refl
-kind-ours (order.Done slot p) entries = ap (λ o. is_ordering (done_written slot o)) (spelled p (entries p (inl refl)))
+  -- ---- what is read
 
-kind-back : (m : OrderMessage) → AreEntries m → slot_read (kind_written m) ≡ Some m
-kind-back (order.Propose slot view p) entries =
-    let is = entries p (inl refl) in
-    ap (λ o. slot_read (proposal_written slot view o)) (spelled p is)
-    ∙ ap (λ (q : Proposed). Some (order.Propose slot view q)) (sym is.is)
-kind-back (order.Echo slot view digest) entries = refl
-kind-back (order.Confirm slot view digest) entries = refl
-kind-back (order.Change slot view c) entries = refl
-kind-back (order.Done slot p) entries =
-    let is = entries p (inl refl) in
-    ap (λ o. slot_read (done_written slot o)) (spelled p is)
-    ∙ ap (λ (q : Proposed). Some (order.Done slot q)) (sym is.is)
+  theirs : (said : Message) (m : OrderMessage) → slot_read version said ≡ Some m → is_ordering said ≡ true
+  theirs (message.Propose slot view entry) m is = refl
+  theirs (message.Echo slot view digest) m is = refl
+  theirs (message.Confirm slot view digest) m is = refl
+  theirs (message.Change slot view change) m is = refl
+  theirs (message.Done slot entry) m is = refl
+  theirs said m is = (let q : None ≡ Some m = is in cc)
 
--- ---- what is read
+  module _ (m : OrderMessage) where
+    abbrev IsProper : OrderMessage → Type 0
+    IsProper k = proper k ≡ true
 
-alone-is : (actions : List Action) (action : Action) → alone actions ≡ Some action → actions ≡ action ∷ []
-alone-is [] action is = absurd cc
-alone-is (one ∷ []) action is = ap (λ (a : Action). a ∷ []) (some_is one action is)
-alone-is (one ∷ two ∷ more) action is = absurd cc
+    read-proper : (said : Message) → MessageFits version said → slot_read version said ≡ Some m → proper m ≡ true
+    read-proper (message.Propose slot view entry) fits is = subst IsProper (some_is _ m is) (fits-place slot view fits.0 fits.1.0)
+    read-proper (message.Echo slot view digest) fits is = subst IsProper (some_is _ m is) (fits-step version slot view digest fits)
+    read-proper (message.Confirm slot view digest) fits is = subst IsProper (some_is _ m is) (fits-step version slot view digest fits)
+    read-proper (message.Change slot view change) fits is = subst IsProper (some_is _ m is) (fits-change version slot view (record { prepared = change.prepared; echoed = change.echoed }) fits)
+    read-proper (message.Done slot entry) fits is = subst IsProper (some_is _ m is) (fits-place slot 0 fits.0 (omega arith))
+    read-proper said fits is = (let q : None ≡ Some m = is in cc)
 
--- a proposal that is read has an action
-record IsRead (actions : List Action) (made : Action → OrderMessage) (m : OrderMessage) : Type 0 where
-  pub action : Action
-  pub alone : actions ≡ action ∷ []
-  pub is : made action ≡ m
+    abbrev Holds : Message → OrderMessage → Type 0
+    Holds said k = carried k ≡ map (proposed_of version) (entries_in said)
 
-proposal-is : (slot view : ℕ) (m : OrderMessage) (actions : List Action) → proposal_read slot view (alone actions) ≡ Some m → IsRead actions (λ a. order.Propose slot view (proposed_of a)) m
-proposal-is slot view m actions is = by (alone actions) refl is
-  where
-    by : (o : Option Action) → alone actions ≡ o → proposal_read slot view o ≡ Some m → IsRead actions (λ a. order.Propose slot view (proposed_of a)) m
-    by None found is = absurd cc
-    by (Some a) found is = record { action = a; alone = alone-is actions a found; is = some_is _ m is }
+    read-entries : (said : Message) → slot_read version said ≡ Some m → carried m ≡ map (proposed_of version) (entries_in said)
+    read-entries (message.Propose slot view entry) is = subst (Holds (message.Propose slot view entry)) (some_is _ m is) refl
+    read-entries (message.Echo slot view digest) is = subst (Holds (message.Echo slot view digest)) (some_is _ m is) refl
+    read-entries (message.Confirm slot view digest) is = subst (Holds (message.Confirm slot view digest)) (some_is _ m is) refl
+    read-entries (message.Change slot view change) is = subst (Holds (message.Change slot view change)) (some_is _ m is) refl
+    read-entries (message.Done slot entry) is = subst (Holds (message.Done slot entry)) (some_is _ m is) refl
+    read-entries said is = (let q : None ≡ Some m = is in cc)
 
-done-is : (slot : ℕ) (m : OrderMessage) (actions : List Action) → done_read slot (alone actions) ≡ Some m → IsRead actions (λ a. order.Done slot (proposed_of a)) m
-done-is slot m actions is = by (alone actions) refl is
-  where
-    by : (o : Option Action) → alone actions ≡ o → done_read slot o ≡ Some m → IsRead actions (λ a. order.Done slot (proposed_of a)) m
-    by None found is = absurd cc
-    by (Some a) found is = record { action = a; alone = alone-is actions a found; is = some_is _ m is }
-
-theirs : (said : Message) (m : OrderMessage) → slot_read said ≡ Some m → is_ordering said ≡ true
-theirs (message.Propose slot view entry) m is = refl
-theirs (message.Echo slot view digest) m is = refl
-theirs (message.Confirm slot view digest) m is = refl
-theirs (message.Change slot view change) m is = refl
-theirs (message.Done slot entry) m is = refl
-theirs said m is = (let q : None ≡ Some m = is in cc)
-
-module _ (m : OrderMessage) where
-  abbrev IsProper : OrderMessage → Type 0
-  IsProper k = proper k ≡ true
-
-  read-proper : (said : Message) → MessageFits One said → slot_read said ≡ Some m → proper m ≡ true
-  read-proper (message.Propose slot view entry) fits is = subst IsProper (proposal-is slot view m entry.actions is).is (fits-place slot view fits.0 fits.1.0)
-  read-proper (message.Echo slot view digest) fits is = subst IsProper (some_is _ m is) (fits-step slot view digest fits)
-  read-proper (message.Confirm slot view digest) fits is = subst IsProper (some_is _ m is) (fits-step slot view digest fits)
-  read-proper (message.Change slot view change) fits is = subst IsProper (some_is _ m is) (fits-change slot view (record { prepared = change.prepared; echoed = change.echoed }) fits)
-  read-proper (message.Done slot entry) fits is = subst IsProper (done-is slot m entry.actions is).is (fits-place slot 0 fits.0 (omega arith))
-  read-proper said fits is = (let q : None ≡ Some m = is in cc)
-
-  abbrev Holds : Message → OrderMessage → Type 0
-  Holds said k = carried k ≡ map proposed_of (entries_in said)
-
-  read-entries : (said : Message) → slot_read said ≡ Some m → carried m ≡ map proposed_of (entries_in said)
-  read-entries (message.Propose slot view entry) is =
-      let read = proposal-is slot view m entry.actions is in
-      ap carried (sym read.is) ∙ ap (map proposed_of) (sym read.alone)
-  read-entries (message.Echo slot view digest) is = subst (Holds (message.Echo slot view digest)) (some_is _ m is) refl
-  read-entries (message.Confirm slot view digest) is = subst (Holds (message.Confirm slot view digest)) (some_is _ m is) refl
-  read-entries (message.Change slot view change) is = subst (Holds (message.Change slot view change)) (some_is _ m is) refl
-  read-entries (message.Done slot entry) is =
-      let read = done-is slot m entry.actions is in
-      ap carried (sym read.is) ∙ ap (map proposed_of) (sym read.alone)
-  read-entries said is = (let q : None ≡ Some m = is in cc)
-
-pub slot_carries : Carries slot_machine slot_carrier
-slot_carries = record {
-  fits = λ m. fits-by m (proper m) refl;
-  ours = λ m is entries. ap is_ordering (written-is m is) ∙ kind-ours m entries;
-  back = λ m is entries. ap slot_read (written-is m is) ∙ kind-back m entries;
-  theirs = theirs;
-  proper = λ said m fits is. read-proper m said fits is;
-  entries = λ said m is. read-entries m said is;
+pub slot_carries : AllCarry slot_machine slot_carrier
+slot_carries version = record {
+  fits = λ m. fits-by version m (proper m) refl;
+  ours = λ m is entries. ap is_ordering (written-is version m is) ∙ kind-ours version m entries;
+  back = λ m is entries. ap (slot_read version) (written-is version m is) ∙ kind-back version m entries;
+  theirs = theirs version;
+  proper = λ said m fits is. read-proper version m said fits is;
+  entries = λ said m is. read-entries version m said is;
 }
 
 -- what is of none of these kinds isn't read
-pub other-read : (said : Message) → ((slot view : ℕ) (entry : Entry) → said ≡ message.Propose slot view entry → ⊥)
+pub other-read : (version : Version) (said : Message) → ((slot view : ℕ) (entry : Entry) → said ≡ message.Propose slot view entry → ⊥)
     → ((slot view : ℕ) (digest : List ℕ) → said ≡ message.Echo slot view digest → ⊥)
     → ((slot view : ℕ) (digest : List ℕ) → said ≡ message.Confirm slot view digest → ⊥)
     → ((slot view : ℕ) (change : Change) → said ≡ message.Change slot view change → ⊥)
-    → ((slot : ℕ) (entry : Entry) → said ≡ message.Done slot entry → ⊥) → None ≡ slot_read said
-other-read (message.Propose slot view entry) propose echo confirm change done = absurd (propose slot view entry refl)
-other-read (message.Echo slot view digest) propose echo confirm change done = absurd (echo slot view digest refl)
-other-read (message.Confirm slot view digest) propose echo confirm change done = absurd (confirm slot view digest refl)
-other-read (message.Change slot view claim) propose echo confirm change done = absurd (change slot view claim refl)
-other-read (message.Done slot entry) propose echo confirm change done = absurd (done slot entry refl)
-other-read said propose echo confirm change done = refl
-
--- the entry that was proposed, where its bytes are
-pub spelled-bytes : (p : Proposed) → IsBytes p.bytes → entry_read p ≡ entry_spelled p
-spelled-bytes p are = ap (λ b. if b then entry_read p else None) (sym (bytes-pass p.bytes are))
+    → ((slot : ℕ) (entry : Entry) → said ≡ message.Done slot entry → ⊥) → None ≡ slot_read version said
+other-read version (message.Propose slot view entry) propose echo confirm change done = absurd (propose slot view entry refl)
+other-read version (message.Echo slot view digest) propose echo confirm change done = absurd (echo slot view digest refl)
+other-read version (message.Confirm slot view digest) propose echo confirm change done = absurd (confirm slot view digest refl)
+other-read version (message.Change slot view claim) propose echo confirm change done = absurd (change slot view claim refl)
+other-read version (message.Done slot entry) propose echo confirm change done = absurd (done slot entry refl)
+other-read version said propose echo confirm change done = refl

@@ -1,5 +1,6 @@
-use Rattle.std.proofs.Common.{◌≤◌, List, ℕ, refl, [], ◌++◌, length, arith}
+use Rattle.std.proofs.Common.{ap, ◌≤◌, List, ℕ, refl, [], ◌++◌, length, arith}
 use Rattle.std.proofs.lemmas.List.{length-append}
+use Rattle.cs_base.specs.Version.{version_of}
 use Rattle.cs_tx.specs.Sessions.{ledger_session}
 use Rattle.cs_node_wire.specs.SlotCarried.{slot_carrier}
 use Rattle.cs_node_wire.specs.laws.SlotCarried.{slot_carries}
@@ -33,10 +34,11 @@ returns c = λ limit low approves schedule playable traced apart.
       bytes = played.bytes;
       genuine = played.genuine;
     } in
+    let first = ap version_of playable.version in
     let told = c.worlds_pass_audit.ensures in
-    let longest = told.longest slot_carrier slot_carries config net genesis approves world playable.few_shards few is_net settled apart in
-    let passes = told.passes slot_carrier slot_carries config net genesis approves world playable.few_shards few is_net settled apart in
-    let fit = told.fit slot_carrier slot_carries config net genesis approves world playable.few_shards few is_net settled apart in
+    let longest = told.longest slot_carrier slot_carries config net genesis approves world playable.few_shards few is_net settled apart first in
+    let passes = told.passes slot_carrier slot_carries config net genesis approves world playable.few_shards few is_net settled apart first in
+    let fit = told.fit slot_carrier slot_carries config net genesis approves world playable.few_shards few is_net settled apart first in
     let sound = c.schedules_are_sound.ensures approves schedule playable traced [] world refl in
     let site = site_of_schedule approves schedule in
     let text = dump_text site schedule.contracts world in

@@ -1,63 +1,65 @@
-use Rattle.std.specs.Prelude.{IfSome}
-use Rattle.std.proofs.Common.{◌≡◌, ◌++◌, ◌∷◌, [], List, Option, is_some, ap, sym, subst, ◌∙◌}
+use Rattle.std.proofs.Common.{◌≡◌, ◌<◌, List, length, Option, refl, ap, sym, subst, ◌∙◌, arith, rules}
 use Rattle.std.proofs.lemmas.Result.{on_ok_weaker}
+use Rattle.std.proofs.lemmas.List.{map-id, length_push}
+use Rattle.std.proofs.lemmas.Iterator.Adapters.{YieldsList-from_vec}
+use Rattle.std.proofs.lemmas.Iterator.Consumers.{YieldsList-turn, YieldsList-end}
+use Rattle.cs_base.specs.declared.version.Version.{Version}
 use Rattle.cs_tx_types.specs.declared.action.Action.{Action}
-use Rattle.cs_tx_types.specs.declared.checkpoint.Checkpoint.{Checkpoint}
-use Rattle.cs_tx_types.specs.declared.limits.TheConstants.{COVERED}
-use Rattle.cs_check.specs.Archives.{Archived}
-use Rattle.cs_check_rules.specs.Chain.{Log, KeptLog, empty_log}
-use Rattle.cs_node_state.specs.Setup.{is_fit}
-use Rattle.cs_node_state.specs.Bench.{Bench, with_leaf}
-use Rattle.cs_node_rules.specs.Signs.{Sign, vote_signs, headed_signs, execution_signs}
+use Rattle.cs_tx_types.specs.declared.entry.Entry.{Entry}
+use Rattle.cs_node_rules.specs.Deployment.{entry_in}
+use Rattle.cs_node_rules.specs.Signs.{execution_signs}
+use Rattle.cs_node_rules.proofs.Entries.{some-action, few-actions, actions-fit}
 use Rattle.cs_node_pool.specs.Deployed.{deployed_setup}
-use Rattle.cs_sbac.specs.Held.{Held, bench_of}
-use Rattle.cs_node.specs.declared.draft.Note.TheVariants.{Executed}
-use Rattle.cs_node.specs.Notes.{TellsSigns}
+use Rattle.cs_sbac.specs.Held.{bench_of}
+use Rattle.cs_node.specs.Executions.{RanSome}
 use Rattle.cs_node.specs.Signing.{Leaves}
-use Rattle.cs_node.proofs.Executing.{bench_closed, last-covers, execution-makes, voted-fit}
-use Rattle.cs_node.proofs.Noting.{effect-again}
+use Rattle.cs_node.proofs.Executing.{ran-none, ran-more, ran-all, fit-at}
 use Rattle.cs_node.proofs.executions.execute.Goals as goal
+
+pub loop-action-init : goal.loop-action-init
+loop-action-init c = record {
+  place_is = refl;
+  covers = tt;
+  runs = λ genesis approves log kept_is. ran-none genesis approves c.args.sbac.now log c.args.slot c.args.draft.now _ kept_is;
+}
+
+pub execute_action-requires : goal.execute_action-requires
+execute_action-requires c =
+    let all : List Action = c.in_ok-entry.entry.actions in
+    let road = YieldsList-from_vec {s = c.into_iter-action-iterator.result} all (search rules) (search rules) in
+    let t = YieldsList-turn road c.loop-action.yielded c.loop-action.action-iterator c.loop-action.yielded_by c.next.result c.next.new.self c.in-Some.action c.in-Some.is c.next.ensures.steps in
+    fit-at all (length c.loop-action.yielded) c.in-Some.action t.0 t.1 (actions-fit c.version.result c.in_ok-entry.entry c.in_ok-entry.ensures.fits)
+
+pub overflow_add-place : goal.overflow_add-place
+overflow_add-place c =
+    let all : List Action = c.in_ok-entry.entry.actions in
+    let road = YieldsList-from_vec {s = c.into_iter-action-iterator.result} all (search rules) (search rules) in
+    let t = YieldsList-turn road c.loop-action.yielded c.loop-action.action-iterator c.loop-action.yielded_by c.next.result c.next.new.self c.in-Some.action c.in-Some.is c.next.ensures.steps in
+    omega (arith, t.0, c.loop-action.invariant.place_is, few-actions c.version.result c.in_ok-entry.entry c.in_ok-entry.ensures.fits)
+
+pub loop-action-preserved : goal.loop-action-preserved
+loop-action-preserved c = record {
+  place_is = omega (arith, c.loop-action.invariant.place_is, length_push c.loop-action.yielded c.in-Some.action);
+  covers = c.in_ok-made.ensures.covers;
+  runs = λ genesis approves log kept_is.
+      let before = c.loop-action.invariant.runs genesis approves log kept_is in
+      ran-more genesis approves c.args.sbac.now log c.args.slot c.args.draft.now c.loop-action.draft c.execute_action.new.draft c.loop-action.sbac c.execute_action.new.sbac c.loop-action.yielded c.in-Some.action c.loop-action.made c.in_ok-made.made
+      before c.loop-action.place c.loop-action.invariant.place_is (c.in_ok-made.ensures.runs approves genesis before.leaves.log before.leaves.kept_is);
+}
 
 pub returns : goal.returns
 returns c = λ approves genesis log kept_is.
     let held = c.args.sbac.now in
+    let entry : Entry = c.in_ok-entry.entry in
+    let all : List Action = entry.actions in
+    let road = YieldsList-from_vec {s = c.into_iter-action-iterator.result} all (search rules) (search rules) in
+    let t = YieldsList-end road c.loop-action.yielded c.loop-action.action-iterator c.loop-action.yielded_by c.next.result c.next.new.self c.in-None.is c.next.ensures.steps in
+    let whole : c.loop-action.yielded ≡ all = sym (map-id c.loop-action.yielded) ∙ t.0 in
     let setup = deployed_setup held.config genesis approves in
-    let me = held.me in
-    let old : Bench = bench_of log held in
-    let entry = c.in_ok-action.action in
-    let ran = c.in_ok-outcome.ensures genesis approves log in
-    let left = ap (λ (a : Archived). a.kept) ran.archived_stays ∙ kept_is in
-    let closing = c.in_ok-made.ensures.bench log left in
-    let slot_is = c.slots.ensures ∙ ap (λ (k : KeptLog). k.slots) left in
-    let result_is = effect-again _ _ ran.effect_is in
-    let after : Log = (with_leaf (record { slot = c.slots.result; place = 0; action = entry; result = c.in_ok-outcome.outcome.effect }) (bench_of log c.execute.new.self)).log in
-    let new : Bench = bench_of after c.forget_touched.new.self in
-    let closed : new ≡ bench_closed setup me old entry =
-    ap (λ (h : Held). bench_of after h) c.forget_touched.ensures ∙ closing.bench_is ∙ (λ i. with_leaf (record { slot = slot_is i; place = 0; action = entry; result = result_is i }) (ran.bench_is i)) in
-    let config_is = ap (λ (h : Held). h.config) c.forget_touched.ensures ∙ c.in_ok-made.ensures.config ∙ ran.config_stays in
-    let me_is = ap (λ (h : Held). h.me) c.forget_touched.ensures ∙ c.in_ok-made.ensures.me ∙ ran.me_stays in
-    let S : List Sign → Type 0 = λ signs. TellsSigns signs c.args.draft.now c.say_vote.new.draft in
-    let said = subst S (λ i. vote_signs (deployed_setup (ran.config_stays i) genesis approves) (ran.me_stays i) (c.session.ensures.is i) (ran.voted_is i)) (c.in_ok-say_vote.ensures genesis approves) in
-    let noted = c.in_ok-note_execution.ensures.notes ∙ ap (λ effect. c.say_vote.new.draft.notes ++ Executed c.args.slot 0 entry effect ∷ []) result_is in
-    let covers = subst (λ (m : Option Checkpoint). IfSome m (λ k. k.leaves ≡ COVERED)) (sym (c.in_ok-made.ensures.made log left)) (last-covers after) in
-    let H : List Sign → Type 0 = λ signs. TellsSigns signs c.note_execution.new.self c.say_made.new.draft in
-    let P : Action → Type 0 = λ e. Leaves setup held (execution_signs setup me old c.args.slot e) old c.forget_touched.new.self c.args.draft.now c.say_made.new.draft in
+    let ran = subst (λ (actions : List Action). RanSome setup held (bench_of log held) c.loop-action.sbac c.args.draft.now c.loop-action.draft c.args.slot actions c.loop-action.made) whole (c.loop-action.invariant.runs genesis approves log kept_is) in
+    let some = some-action c.version.result entry c.in_ok-entry.ensures.fits in
+    let is : entry ≡ entry_in setup.version c.args.proposed.now = c.in_ok-entry.ensures.entry ∙ ap (λ (version : Version). entry_in version c.args.proposed.now) c.version.ensures in
+    let P : Entry → Type 0 = λ e. Leaves setup held (execution_signs setup held.me (bench_of log held) c.args.slot e) (bench_of log held) c.loop-action.sbac c.args.draft.now c.say_made.new.draft in
     on_ok_weaker _
-    (λ heads. subst P c.in_ok-action.ensures.action (record {
-      log = after;
-      kept_is = ap (λ (h : Held). h.archived.kept) c.forget_touched.ensures ∙ closing.kept_is;
-      config_is = config_is;
-      me_is = me_is;
-      makes = execution-makes setup me old new c.args.slot entry c.args.draft.now c.say_vote.new.draft c.note_execution.new.self c.say_made.new.draft closed said noted c.in_ok-note_execution.ensures.said
-          (subst H (λ i. headed_signs (deployed_setup (config_is i) genesis approves) (me_is i) (c.in_ok-made.ensures.made log left i)) heads);
-    }))
-    (c.say_made.ensures covers genesis approves)
-
-pub say_vote-requires-clause-fit : goal.say_vote-requires-clause-fit
-say_vote-requires-clause-fit c = λ some genesis approves.
-    let setup = deployed_setup c.args.sbac.now.config genesis approves in
-    let me = c.args.sbac.now.me in
-    let ran = c.in_ok-outcome.ensures genesis approves (empty_log 0) in
-    let told = sym (ap is_some ran.voted_is) ∙ some in
-    let fit = voted-fit setup me.shard (bench_of (empty_log 0) c.args.sbac.now) c.in_ok-action.action told in
-    (λ i. is_fit (deployed_setup (ran.config_stays i) genesis approves) (ran.me_stays i).shard (c.session.ensures.is i)) ∙ fit
+    (λ told. subst P is (ran-all genesis approves held log c.args.slot entry c.args.draft.now c.loop-action.draft c.say_made.new.draft c.loop-action.sbac c.loop-action.made some ran told))
+    (c.say_made.ensures genesis approves)

@@ -1,6 +1,8 @@
-use Rattle.std.proofs.Common.{◌≡◌, List, ◌++◌, subst}
+use Rattle.std.proofs.Common.{◌≡◌, List, [], ◌++◌, drop, ap, sym, subst, ◌∙◌, append-nil}
+use Rattle.std.proofs.lemmas.List.{drop_all}
 use Rattle.cs_base.specs.declared.node_id.NodeId.{NodeId}
-use Rattle.cs_node.specs.Notes.{AllReached, to_each, outs_for}
+use Rattle.cs_node.specs.declared.draft.Said.{Said}
+use Rattle.cs_node.specs.Notes.{AllReached, to_each, spoken, outs_for}
 use Rattle.cs_node.proofs.Sealing.{rest-fits, first-reached, rest-sealed}
 use Rattle.cs_node.proofs.outs.seal_each.Goals as goal
 
@@ -19,3 +21,10 @@ loop-i-preserved c = record {
             so-far.1,
       );
 }
+
+pub returns : goal.returns
+returns c = λ config net speaks reached.
+    let past : drop c.loop-i.i c.args.said.now ≡ [] = drop_all c.loop-i.i c.args.said.now c.loop-i-test.false in
+    sym (append-nil c.loop-i.outs)
+    ∙ ap (λ (said : List Said). c.loop-i.outs ++ outs_for net c.args.keys.now.me (spoken said)) (sym past)
+    ∙ (c.loop-i.invariant.sealed config net speaks reached).1

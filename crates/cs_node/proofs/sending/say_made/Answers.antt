@@ -13,7 +13,7 @@ use Rattle.cs_node.proofs.Sums.{tells-more}
 use Rattle.cs_node.proofs.sending.say_made.Goals as goal
 
 pub returns : goal.returns
-returns c = λ _ genesis approves.
+returns c = λ genesis approves.
     let held = c.args.sbac.now in
     let setup = deployed_setup held.config genesis approves in
     let checkpoint = c.in-Some.checkpoint in

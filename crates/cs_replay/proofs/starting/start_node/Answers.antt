@@ -12,6 +12,9 @@ use Rattle.cs_replay.proofs.starting.start_node.Goals as goal
 pub start-requires-clause-first : goal.start-requires-clause-first
 start-requires-clause-first g c = c.in_ok-keys.ensures.version ∙ ap version_of c.requires.playable.version
 
+pub start-requires-clause-version : goal.start-requires-clause-version
+start-requires-clause-version g c = c.requires.playable.version
+
 pub start-requires-clause-node : goal.start-requires-clause-node
 start-requires-clause-node g c =
     subst (λ (name : NodeId). is_node c.args.schedule.now.config name ≡ true) (sym c.in_ok-keys.ensures.me) c.requires.node

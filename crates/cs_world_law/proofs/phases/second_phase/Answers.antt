@@ -38,7 +38,7 @@ said-here p i honest deed there out handed =
     let some = by-node slot_machine p i honest in
     let t = trail_of i p.world in
     let known = local site (sound slot_machine p some) (Here slot_machine p) i t (made slot_machine p some i) (within slot_machine p some i) in
-    let entries = λ (e : Proposed) (j : IsIn e (held_in site.machine (deeds_in t))). let k = known.held e j in let is : IsEntry e = record { entry = k.entry; fits = k.fits; is = k.is } in is in
+    let entries = λ (e : Proposed) (j : IsIn e (held_in site.machine (deeds_in t))). let k = known.held e j in let is : IsEntry site.setup.version e = record { entry = k.entry; fits = k.fits; is = k.is } in is in
     let deeds = deeds-kept site (sound slot_machine p some) (Here slot_machine p) i t (made slot_machine p some i) in
     said-so site (sound slot_machine p some) refl i t deeds entries (world-handled site p.world p.is_world.life i) deed there out handed
 

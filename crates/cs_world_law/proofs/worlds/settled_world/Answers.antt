@@ -114,7 +114,7 @@ returns-clause-executed_known g c carrier carries config net genesis approves wo
     let rules = g.O.Order.rules in
     let p = place rules g.met.O.Order.law g.met.O.Order.holds c.marks_are_made.ensures.made carrier carries config net genesis approves world few small is_net is_world in
     let site = At rules p in
-    by-world rules p (λ z. ExecutesKnown site z) (λ i entry e. no-split e.later _ e.earlier e.split) (λ some i entry e. (executed rules p some i entry e).listed)
+    by-world rules p (λ z. ExecutesKnown site z) (λ i entry e. no-split e.later _ e.earlier e.split) (λ some i entry e. let done = executed rules p some i entry e in (done.entry, done.listed, done.among))
 
 pub returns-clause-executed_fit : goal.returns-clause-executed_fit
 returns-clause-executed_fit g c carrier carries config net genesis approves world few small is_net is_world =

@@ -14,7 +14,7 @@ returns-then-branch-clause-done g c = λ net genesis log h seated.
     let approves = g.J.Judge.is_approved c.args.self.now.judge in
     let some = pending-there (deployed_setup held.config [] approves) held.me.shard held.pool (g.O.Order.awaits c.args.self.now.order) (sym (c.in_ok-admits_pending.ensures.admitted []) ∙ c.if-branch.true) in
     echoed-here g.O.Order.stands g.J.Judge.is_approved g.O.Order.rules g.O.Carried.carrier net c.args.self.now genesis log h c.args.draft.now c.hand_out.new.draft seated c.echo.new.self c.new-outgoing.result.items c.echo.new.out.items c.new-outgoing.ensures.items
-    (c.in_ok-hand_out.ensures net genesis approves) (g.O.Order.rules.pending h)
+    (c.in_ok-hand_out.ensures net genesis approves seated.first) (g.O.Order.rules.pending h)
     (ap (admits_pending (deployed_setup held.config genesis approves) held.me.shard held.pool) (sym (c.in_ok-admits_pending.ensures.awaits h seated.stood)) ∙ sym (c.in_ok-admits_pending.ensures.admitted genesis) ∙ c.if-branch.true)
     (c.in_ok-echo.ensures.call some h seated.stood)
 

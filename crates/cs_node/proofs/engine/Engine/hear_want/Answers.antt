@@ -20,4 +20,4 @@ returns g c = λ net genesis log h seated.
     let allowed = may-ask core.sbac.config core.sbac.me c.args.sender h.f h.me (g.O.Order.f core.order) (g.O.Order.me core.order) other seated.f_is seated.index_is (g.met.O.Order.belongs core.order h seated.stood) in
     let R : Bool → Type 0 = λ answer. Replies g.O.Order.rules h c.args.slot c.args.sender.index answer c.new-outgoing.result.items c.reply.new.out.items (g.O.Order.stands core.order) in
     answered-here g.O.Order.stands g.J.Judge.is_approved g.O.Order.rules g.O.Carried.carrier net c.args.self.now genesis log h c.args.draft.now c.hand_out.new.draft seated c.args.sender c.args.slot c.new-outgoing.result.items c.reply.new.out.items c.new-outgoing.ensures.items other
-    (subst R c.if-not-branch.false (c.in_ok-reply.ensures.call h seated.stood allowed.0 allowed.1)) (c.in_ok-hand_out.ensures net genesis (g.J.Judge.is_approved core.judge))
+    (subst R c.if-not-branch.false (c.in_ok-reply.ensures.call h seated.stood allowed.0 allowed.1)) (c.in_ok-hand_out.ensures net genesis (g.J.Judge.is_approved core.judge) seated.first)

@@ -22,6 +22,6 @@ pub returns-clause-done : goal.returns-clause-done
 returns-clause-done g c = λ net genesis log h seated.
     let approves = g.J.Judge.is_approved c.args.self.now.judge in
     proposed-here g.O.Order.stands g.J.Judge.is_approved g.O.Order.rules g.O.Carried.carrier net c.args.self.now genesis log h c.args.draft.now c.hand_out.new.draft seated c.propose.new.self c.new-outgoing.result.items c.propose.new.out.items c.new-outgoing.ensures.items
-    (c.in_ok-hand_out-in-Some.ensures net genesis approves) _ c.in-Some.proposed
+    (c.in_ok-hand_out-in-Some.ensures net genesis approves seated.first) _ c.in-Some.proposed
     (candidates-some (deployed_setup c.args.self.now.sbac.config genesis approves) net g.O.Order.rules g.O.Carried.carrier (core_view log c.args.self.now.sbac h) c.args.candidates c.in-Some.proposed (sym (c.in_ok-first_admitted.ensures genesis) ∙ c.in-Some.is))
     (c.in_ok-propose-in-Some.ensures.call h seated.stood)

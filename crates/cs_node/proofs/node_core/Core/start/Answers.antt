@@ -1,5 +1,6 @@
 use Rattle.std.proofs.Common.{◌≡◌, None, sym, subst, ap, refl, ◌∙◌}
 use Rattle.cs_base.specs.declared.node_id.NodeId.{NodeId}
+use Rattle.cs_base.specs.Version.{version_of}
 use Rattle.cs_ledger.specs.Table.{start as begun}
 use Rattle.cs_node_rules.specs.Site.{start_view}
 use Rattle.cs_node_rules.specs.Deployment.{site_of}
@@ -35,7 +36,7 @@ returns-clause-stands g c = λ objects named net speaks.
     record {
       keeps = subst P (sym sbac-is)
           (started g.O.Order.stands approves rules carried net c.args.config me objects c.args.genesis.now c.args.order c.args.judge c.in-Ok.table c.in_ok-sbac.sbac.archived.hashed (g.O.Order.f c.args.order) (g.O.Order.me c.args.order)
-          (g.met.O.Order.begins c.args.order c.requires.start) c.requires.f c.requires.me c.requires.node named
+          (g.met.O.Order.begins c.args.order c.requires.start) c.requires.f c.requires.me c.requires.node (ap version_of c.requires.version) named
           (c.in-Ok.ensures.table ∙ ap (λ (name : NodeId). begun (genesis_rules c.args.config c.args.genesis.now) name.shard) c.me-me.ensures)
           c.root_is_shown.ensures.keys);
       me_is = refl;

@@ -1,25 +1,43 @@
-use Rattle.std.proofs.Common.{◌∙◌, ap, sym}
-use Rattle.std.proofs.lemmas.Result.{IfOk-weaker}
-use Rattle.cs_tx_types.specs.declared.action.Action.TheVariants.{Prepare, Decide}
+use Rattle.std.proofs.Common.{◌≤◌, ◌∙◌, List, length, ap, sym, subst}
+use Rattle.std.specs.List.{list_all}
+use Rattle.std.proofs.lemmas.List.{drop_all}
+use Rattle.cs_tx_types.specs.declared.action.Action.{Action}
+use Rattle.cs_tx_types.specs.Session.{ActionFits}
 use Rattle.cs_node_state.specs.Setup.{Setup}
-use Rattle.cs_node_state.specs.Admission.{admits}
-use Rattle.cs_node_state.specs.laws.Actions.{admits_one}
+use Rattle.cs_node_state.specs.Admission.{admits_action}
 use Rattle.cs_node_pool.specs.Deployed.{deployed_setup}
+use Rattle.cs_sbac.proofs.Admitting.{all-passed, not-all, from-here}
 use Rattle.cs_sbac.proofs.sbac.Sbac.admits.Goals as goal
 
-pub returns-in-Prepare : goal.returns-in-Prepare
-returns-in-Prepare g c genesis =
+pub loop-action-preserved : goal.loop-action-preserved
+loop-action-preserved g c =
+    let held = c.args.self.now in
+    record {
+      fits = (from-here ActionFits c.args.entry.now.actions c.as_slice-action-items.result.now c.loop-action.action-index c.action-item.result c.as_slice-action-items.ensures c.loop-action-test.true c.action-item.is c.loop-action.invariant.fits).1;
+      rest = λ genesis.
+          let setup = deployed_setup held.config genesis (g.J.Judge.is_approved c.args.judge.now) in
+          c.loop-action.invariant.rest genesis
+          ∙ all-passed (admits_action setup held.me.shard held.pool) c.args.entry.now.actions c.as_slice-action-items.result.now c.loop-action.action-index c.action-item.result c.in_ok-admits_action.field-0
+          c.as_slice-action-items.ensures c.loop-action-test.true c.action-item.is (c.in_ok-admits_action.ensures genesis) c.if-not-branch.false;
+    }
+
+pub admits_action-requires : goal.admits_action-requires
+admits_action-requires g c =
+    (from-here ActionFits c.args.entry.now.actions c.as_slice-action-items.result.now c.loop-action.action-index c.action-item.result c.as_slice-action-items.ensures c.loop-action-test.true c.action-item.is c.loop-action.invariant.fits).0
+
+pub returns-then-not-branch : goal.returns-then-not-branch
+returns-then-not-branch g c = λ genesis.
+    let held = c.args.self.now in
+    let setup = deployed_setup held.config genesis (g.J.Judge.is_approved c.args.judge.now) in
+    sym (c.loop-action.invariant.rest genesis
+    ∙ not-all (admits_action setup held.me.shard held.pool) c.args.entry.now.actions c.as_slice-action-items.result.now c.loop-action.action-index c.action-item.result c.in_ok-admits_action.field-0
+    c.as_slice-action-items.ensures c.loop-action-test.true c.action-item.is (c.in_ok-admits_action.ensures genesis) c.if-not-branch.true)
+
+pub returns : goal.returns
+returns g c = λ genesis.
     let held = c.args.self.now in
     let setup : Setup = deployed_setup held.config genesis (g.J.Judge.is_approved c.args.judge.now) in
-    IfOk-weaker c.admits_prepare.result _ _
-    (λ admitted is. is ∙ sym (admits_one setup held.me.shard held.pool (Prepare c.in-Prepare.session)) ∙ ap (admits setup held.me.shard held.pool) (sym c.in-Prepare.is))
-    (c.admits_prepare.ensures genesis)
-
-pub returns-in-Decide : goal.returns-in-Decide
-returns-in-Decide g c genesis =
-    let held = c.args.self.now in
-    let approves = g.J.Judge.is_approved c.args.judge.now in
-    let setup : Setup = deployed_setup held.config genesis approves in
-    IfOk-weaker c.admits_decide.result _ _
-    (λ admitted is. is ∙ sym (admits_one setup held.me.shard held.pool (Decide c.in-Decide.vote c.in-Decide.session)) ∙ ap (admits setup held.me.shard held.pool) (sym c.in-Decide.is))
-    (c.admits_decide.ensures genesis approves)
+    let actions : List Action = c.args.entry.now.actions in
+    let Past : List Action → Type 0 = λ xs. length xs ≤ c.loop-action.action-index in
+    let past : length actions ≤ c.loop-action.action-index = subst Past c.as_slice-action-items.ensures c.loop-action-test.false in
+    sym (c.loop-action.invariant.rest genesis ∙ ap (list_all (admits_action setup held.me.shard held.pool)) (drop_all c.loop-action.action-index actions past))
