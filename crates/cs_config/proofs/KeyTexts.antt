@@ -6,15 +6,15 @@ use Rattle.hex.specs.Hex.{encode_lower}
 use Rattle.toml.specs.Data.{string}
 use Rattle.toml.specs.Tables.{Expression, key_value, array_table}
 use Rattle.toml.specs.Text.{IsLinesText, IsDocumentText, expressions, are_tables, elements}
-use Rattle.toml_writer.specs.Text.{string_text, key_text}
+use Rattle.toml_writer.specs.Text.{key_text}
 use Rattle.cs_base.specs.declared.config.Config.{Config}
 use Rattle.cs_base.specs.declared.node_id.NodeId.{NodeId}
 use Rattle.cs_base.specs.NodeId.{is_named, node_text, same_name}
 use Rattle.cs_wire.specs.AllNames.{names_of}
-use Rattle.cs_wire.specs.Keys.{Listed, row_between, row_expected}
+use Rattle.cs_wire.specs.Keys.{Listed, row_between}
 use Rattle.cs_wire.specs.declared.keys.Row.{Row}
 use Rattle.cs_config.specs.Printed.{listed_between, list_with, peers_data, keys_data}
-use Rattle.cs_config.specs.KeyText.{text_line, peer_text, peer_texts, peers_text, GiveSameKeys, KeysAloneTell}
+use Rattle.cs_config.specs.KeyText.{text_line, peer_texts, peers_text, GiveSameKeys, KeysAloneTell}
 use Rattle.cs_config.proofs.Named.{IsNamed, all_named}
 
 -- ---- the lines

@@ -2,6 +2,7 @@ mod Read
 mod Steps
 pub mod Tables
 mod Objects
+mod Transactions
 mod Configs
 mod Back
 mod Counting

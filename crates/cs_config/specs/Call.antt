@@ -1,11 +1,13 @@
--- A call file: the method of a contract that a client runs, and on what.
-use Rattle.std.specs.Prelude.{◌≡◌, ◌⊎◌, ℕ, List, Result, Ok, Err}
+-- A call file: the method of a contract that a client runs, and on what; or a transaction that it submits.
+use Rattle.std.specs.Prelude.{◌≡◌, ◌⊎◌, ℕ, List, [], replicate, Option, Some, None, Result, Ok, Err}
 use Rattle.std.specs.List.{AllByRecursion}
-use Rattle.toml.specs.Data.{Members, as_integer, as_str}
+use Rattle.toml.specs.Data.{Data, Members, get_member, as_integer, as_str}
 use Rattle.cs_tx_value.specs.Encoding.{ValueFits}
 use Rattle.cs_config.specs.Reading.{◌>>=◌, toml_table_of, one_of, each_of, number_between}
 use Rattle.cs_config.specs.Items.{hex_digest, arg_of}
 use Rattle.cs_config.specs.Contract.{contract_id_of}
+use Rattle.cs_config.specs.Names.{field_name}
+use Rattle.cs_config.specs.Given.{transaction_in, number_in}
 use Rattle.cs_config.specs.declared.limits.TheConstants.{LAST_NUMBER}
 use Rattle.cs_config.specs.declared.error.FileField.TheVariants as field
 use Rattle.cs_config.specs.declared.error.ConfigError.{ConfigError}
@@ -42,6 +44,7 @@ call_with_number draft = do
     reads = draft.reads;
     args = draft.args;
     number = number;
+    transaction = None;
   })
 
 abbrev pub AllFit : CallDraft → Type 0
@@ -53,21 +56,55 @@ IsCallWithin draft (Ok call) = AllFit draft × (call_with_number draft ≡ Ok ca
 IsCallWithin draft (Err refusal) =
     (¬ AllFit draft × (refusal ≡ Limit field.Args)) ⊎ (AllFit draft × (call_with_number draft ≡ Err refusal))
 
--- the fields of a call file as they stand there, or why it is refused
-abbrev pub call_draft_in : List ℕ → Result CallDraft ConfigError
-call_draft_in bytes = do
-  members ← toml_table_of bytes
-  call_draft_of members
-
 -- what a draft comes to, or why there is none
 abbrev pub CallDraftComes : Result CallDraft ConfigError → Result CallFile ConfigError → Type 0
 CallDraftComes (Ok draft) result = IsCallWithin draft result
 CallDraftComes (Err refusal) result = result ≡ Err refusal
 
--- what a call file says, or why it is refused, unless memory ran out
+-- a transaction that is submitted, and nothing that is called
+abbrev pub call_of_transaction : List ℕ → ℕ → CallFile
+call_of_transaction bytes number = record {
+  contract = replicate 32 0;
+  method = [];
+  inputs = [];
+  reads = [];
+  args = [];
+  number = number;
+  transaction = Some bytes;
+}
+
+abbrev pub transaction_call : Data → Members → Result CallFile ConfigError
+transaction_call held members = do
+  bytes ← transaction_in held members
+  number ← number_in members
+  Ok (call_of_transaction bytes number)
+
+-- what the fields of a call file come to: a transaction is looked at first
+abbrev pub ByTransaction : Option Data → Members → Result CallFile ConfigError → Type 0
+ByTransaction None members result = CallDraftComes (call_draft_of members) result
+ByTransaction (Some held) members result = result ≡ transaction_call held members
+
+abbrev pub TableComes : Members → Result CallFile ConfigError → Type 0
+TableComes members result = ByTransaction (get_member (field_name field.Transaction) members) members result
+
+abbrev pub CallComes : Result Members ConfigError → Result CallFile ConfigError → Type 0
+CallComes (Ok members) result = TableComes members result
+CallComes (Err refusal) result = result ≡ Err refusal
+
+-- so it is, unless memory ran out
+abbrev pub UnlessMemory : (Result CallFile ConfigError → Type 0) → Result CallFile ConfigError → Type 0
+UnlessMemory IsSo (Ok call) = IsSo (Ok call)
+UnlessMemory IsSo (Err Memory) = Unit {0}
+UnlessMemory IsSo (Err Toml) = IsSo (Err Toml)
+UnlessMemory IsSo (Err (Field f)) = IsSo (Err (Field f))
+UnlessMemory IsSo (Err (Limit f)) = IsSo (Err (Limit f))
+
+abbrev pub GivesCalled : Result CallFile ConfigError → Members → Type 0
+GivesCalled result members = UnlessMemory (CallDraftComes (call_draft_of members)) result
+
+abbrev pub GivesTableCall : Result CallFile ConfigError → Members → Type 0
+GivesTableCall result members = UnlessMemory (TableComes members) result
+
+-- what a call file says, or why it is refused
 abbrev pub GivesCall : Result CallFile ConfigError → List ℕ → Type 0
-GivesCall (Ok call) bytes = CallDraftComes (call_draft_in bytes) (Ok call)
-GivesCall (Err Memory) bytes = Unit {0}
-GivesCall (Err Toml) bytes = CallDraftComes (call_draft_in bytes) (Err Toml)
-GivesCall (Err (Field f)) bytes = CallDraftComes (call_draft_in bytes) (Err (Field f))
-GivesCall (Err (Limit f)) bytes = CallDraftComes (call_draft_in bytes) (Err (Limit f))
+GivesCall result bytes = UnlessMemory (CallComes (toml_table_of bytes)) result

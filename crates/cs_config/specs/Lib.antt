@@ -3,6 +3,7 @@ pub mod Reading
 pub mod Items
 pub mod Site
 pub mod Contract
+pub mod Given
 pub mod Call
 pub mod Plan
 pub mod Complete

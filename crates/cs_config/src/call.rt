@@ -1,14 +1,15 @@
 //! Call files.
 ghost use Rattle.std.specs.Prelude.{IfOk};
 ghost use Rattle.std.specs.List.{AllByRecursion};
-ghost use Rattle.toml.specs.View.{table_view};
+ghost use Rattle.toml.specs.View.{view, table_view};
 ghost use Rattle.cs_tx_value.specs.Encoding.{ValueFits};
 ghost use Rattle.cs_config.specs.Reading.{FileGives};
-ghost use Rattle.cs_config.specs.Call.{call_draft_of, IsCallWithin, GivesCall};
+ghost use Rattle.cs_config.specs.Call.{call_draft_of, transaction_call, IsCallWithin, GivesCalled, GivesTableCall, GivesCall};
 
 use crate::document::read_table;
 use crate::error::{ConfigError, FileField};
-use crate::fields::{each_at, one_at};
+use crate::fields::{each_at, one_at, value_at};
+use crate::given::{number_in, transaction_in};
 use crate::hex_values::read_contract;
 use crate::limits::LAST_NUMBER;
 use crate::numbers::within;
@@ -19,7 +20,8 @@ use cs_tx_value::{Digest, Value, each_fits};
 use std::alloc::Global;
 use toml::Table;
 
-/// What a client is to do: to run the method of a contract on objects and arguments.
+/// What a client is to do: to run the method of a contract on objects and arguments; or to submit a
+/// transaction, and then nothing is called.
 #[derive(Drop)]
 pub struct CallFile {
     pub contract: Digest,
@@ -31,6 +33,8 @@ pub struct CallFile {
     pub args: Sequence<Value>,
     /// The number of the session.
     pub number: u64,
+    /// The encoding of the transaction.
+    pub transaction: Option<Sequence<u8>>,
 }
 
 // The fields of a call file, before their ranges are looked at.
@@ -72,8 +76,47 @@ pub fn read_call(alloc: Global, bytes: &[u8]) -> Result<CallFile, ConfigError>
     ensures fits { IfOk result (λ call. AllByRecursion ValueFits call.args) }
 {
     let table = read_table(alloc, bytes)?;
-    let draft = call_draft(alloc, &table)?;
+    call_in(alloc, &table)
+}
+
+// What the table of a call file says: a transaction, where one stands there, else a call.
+fn call_in(alloc: Global, table: &Table) -> Result<CallFile, ConfigError>
+    ensures given { GivesTableCall result (table_view table.now) }
+    ensures fits { IfOk result (λ call. AllByRecursion ValueFits call.args) }
+{
+    match value_at(table, FileField::Transaction) {
+        Some(value) => transaction_call(alloc, table, value),
+        None => called(alloc, table),
+    }
+}
+
+fn called(alloc: Global, table: &Table) -> Result<CallFile, ConfigError>
+    ensures given { GivesCalled result (table_view table.now) }
+    ensures fits { IfOk result (λ call. AllByRecursion ValueFits call.args) }
+{
+    let draft = call_draft(alloc, table)?;
     call_within(draft)
+}
+
+fn transaction_call(
+    alloc: Global,
+    table: &Table,
+    value: &toml::Value,
+) -> Result<CallFile, ConfigError>
+    ensures given { FileGives result (transaction_call (view value.now) (table_view table.now)) }
+    ensures fits { IfOk result (λ call. AllByRecursion ValueFits call.args) }
+{
+    let transaction = transaction_in(alloc, table, value)?;
+    let number = number_in(alloc, table)?;
+    Ok(CallFile {
+        contract: [0; 32],
+        method: Text::from_string(String::new(alloc)),
+        inputs: Sequence::new(alloc),
+        reads: Sequence::new(alloc),
+        args: Sequence::new(alloc),
+        number,
+        transaction: Some(transaction),
+    })
 }
 
 fn call_draft(alloc: Global, table: &Table) -> Result<CallDraft, ConfigError>
@@ -110,5 +153,6 @@ fn call_within(draft: CallDraft) -> Result<CallFile, ConfigError>
         reads: draft.reads,
         args: draft.args,
         number,
+        transaction: None,
     })
 }

@@ -28,6 +28,7 @@ pub enum FileField {
     Calls,
     Hosts,
     Tick,
+    Transaction,
 }
 
 /// Why a file gave nothing. A field that is missing, of another type or unreadable is told before
@@ -70,6 +71,7 @@ impl FileField {
             FileField::Calls => "calls",
             FileField::Hosts => "hosts",
             FileField::Tick => "tick",
+            FileField::Transaction => "transaction",
         }
     }
 }

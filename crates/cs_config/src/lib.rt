@@ -10,6 +10,7 @@ mod complete;
 mod document;
 mod error;
 mod fields;
+mod given;
 mod hex_values;
 mod host;
 mod hosts;
@@ -29,6 +30,7 @@ pub use call::{CallFile, read_call};
 pub use document::read_table;
 pub use error::{ConfigError, FileField};
 pub use fields::{each_at, held_under, one_at};
+pub use given::decode_transaction;
 pub use host::addresses_are_read;
 pub use hosts::{Hosts, read_hosts};
 pub use limits::{

@@ -1,0 +1,7 @@
+mod Read
+mod Steps
+mod TraceLists
+mod Limits
+mod Failing
+mod Texts
+mod Closed

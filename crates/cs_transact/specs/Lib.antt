@@ -1,0 +1,10 @@
+pub mod Refusing
+pub mod ContractNames
+pub mod Items
+pub mod Lines
+pub mod Reading
+pub mod Fitting
+pub mod Formed
+pub mod Says
+pub mod Telling
+pub mod Command
