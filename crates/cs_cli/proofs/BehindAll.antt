@@ -5,7 +5,7 @@ use Rattle.std.specs.List.{position, prefix_len}
 use Rattle.std.specs.declared.alloc.Global.{Global}
 use Rattle.std.proofs.lemmas.List.{length-map, take-map, drop-map}
 use Rattle.cs_cli.specs.Words.{texts_of}
-use Rattle.cs_cli.specs.Wished.{is_wish, is_wish_word, with_wish, wished_at, wished}
+use Rattle.cs_cli.specs.Wished.{is_wish, is_wish_word, with_wishes, wished_at, wished}
 use Rattle.cs_cli.specs.declared.deployments.Deployment.{Deployment}
 use Rattle.cs_cli.proofs.Behind.{Word, prefix-map}
 
@@ -25,8 +25,8 @@ module _ (called : List (List ℕ) → Option Deployment) (words : List (List �
   pub wished-without : None ≡ position is_wish words → wished called words ≡ called words
   wished-without none = ap (wished_at called words) (sym none)
 
-  pub wished-with : (before : ℕ) (behind : List (List ℕ)) (read : Option Deployment) → Some before ≡ position is_wish words → behind ≡ drop before words → called (take before words) ≡ read → wished called words ≡ option_and_then (with_wish before behind) read
+  pub wished-with : (before : ℕ) (behind : List (List ℕ)) (read : Option Deployment) → Some before ≡ position is_wish words → behind ≡ drop before words → called (take before words) ≡ read → wished called words ≡ option_and_then (with_wishes before behind) read
   wished-with before behind read at is reads =
       ap (wished_at called words) (sym at)
-      ∙ ap (option_and_then (with_wish before (drop before words))) reads
-      ∙ ap (λ (w : List (List ℕ)). option_and_then (with_wish before w) read) (sym is)
+      ∙ ap (option_and_then (with_wishes before (drop before words))) reads
+      ∙ ap (λ (w : List (List ℕ)). option_and_then (with_wishes before w) read) (sym is)

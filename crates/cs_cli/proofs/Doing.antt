@@ -1,8 +1,9 @@
 -- What a command does, by what its words call for.
-use Rattle.std.proofs.Common.{◌≡◌, ℕ, List, Option, Some, sym, subst}
+use Rattle.std.proofs.Common.{◌≡◌, ℕ, Bool, List, Option, Some, sym, subst}
 use Rattle.cs_base.specs.declared.key.Key.{Key}
 use Rattle.cs_io.specs.Outside.{Outside}
 use Rattle.cs_io.specs.declared.until.Until.{Until}
+use Rattle.cs_deploy.specs.declared.wishes.Wishes.{Wishes}
 use Rattle.cs_wallet.specs.declared.calls.WalletCall.{WalletCall}
 use Rattle.cs_cli.specs.declared.words.Command.{Command}
 use Rattle.cs_cli.specs.declared.words.Command.TheVariants.{Try, ReadKeys, Wallet}
@@ -52,24 +53,24 @@ module _ (words : List (List ℕ)) (a b : Outside) (status : ℕ) where
       (subst (λ (x : List ℕ). ClientDoes s k x (word_if words hosts) until a b status) third
       (subst (λ (x : Option (List ℕ)). ClientDoes s k c x until a b status) fourth does))))
 
-  pub tries-do : (site keys call : ℕ) (hosts : Option ℕ) (tries : ℕ) (until : Until) (s k c : List ℕ) (h : Option (List ℕ)) (deployment : Deployment) → deployment ≡ ClientTries site keys call hosts tries until → s ≡ word_at words site → k ≡ word_at words keys → c ≡ word_at words call → h ≡ word_if words hosts
-      → TriesDo s k c h tries until a b status → DeploymentDoes deployment words a b status
-  tries-do site keys call hosts tries until s k c h deployment is first second third fourth does =
-      deploys-so (ClientTries site keys call hosts tries until) deployment is
-      (subst (λ (x : List ℕ). TriesDo x (word_at words keys) (word_at words call) (word_if words hosts) tries until a b status) first
-      (subst (λ (x : List ℕ). TriesDo s x (word_at words call) (word_if words hosts) tries until a b status) second
-      (subst (λ (x : List ℕ). TriesDo s k x (word_if words hosts) tries until a b status) third
-      (subst (λ (x : Option (List ℕ)). TriesDo s k c x tries until a b status) fourth does))))
+  pub tries-do : (site keys call : ℕ) (hosts : Option ℕ) (wishes : Wishes) (until : Until) (s k c : List ℕ) (h : Option (List ℕ)) (deployment : Deployment) → deployment ≡ ClientTries site keys call hosts wishes until → s ≡ word_at words site → k ≡ word_at words keys → c ≡ word_at words call → h ≡ word_if words hosts
+      → TriesDo s k c h wishes until a b status → DeploymentDoes deployment words a b status
+  tries-do site keys call hosts wishes until s k c h deployment is first second third fourth does =
+      deploys-so (ClientTries site keys call hosts wishes until) deployment is
+      (subst (λ (x : List ℕ). TriesDo x (word_at words keys) (word_at words call) (word_if words hosts) wishes until a b status) first
+      (subst (λ (x : List ℕ). TriesDo s x (word_at words call) (word_if words hosts) wishes until a b status) second
+      (subst (λ (x : List ℕ). TriesDo s k x (word_if words hosts) wishes until a b status) third
+      (subst (λ (x : Option (List ℕ)). TriesDo s k c x wishes until a b status) fourth does))))
 
-  pub session-does : (site keys call : ℕ) (hosts : Option ℕ) (session : ℕ) (until : Until) (s k c : List ℕ) (h : Option (List ℕ)) (m : List ℕ) (deployment : Deployment) → deployment ≡ ClientSession site keys call hosts session until → s ≡ word_at words site → k ≡ word_at words keys → c ≡ word_at words call → h ≡ word_if words hosts → m ≡ word_at words session
-      → SessionDoes s k c h m until a b status → DeploymentDoes deployment words a b status
-  session-does site keys call hosts session until s k c h m deployment is first second third fourth fifth does =
-      deploys-so (ClientSession site keys call hosts session until) deployment is
-      (subst (λ (x : List ℕ). SessionDoes x (word_at words keys) (word_at words call) (word_if words hosts) (word_at words session) until a b status) first
-      (subst (λ (x : List ℕ). SessionDoes s x (word_at words call) (word_if words hosts) (word_at words session) until a b status) second
-      (subst (λ (x : List ℕ). SessionDoes s k x (word_if words hosts) (word_at words session) until a b status) third
-      (subst (λ (x : Option (List ℕ)). SessionDoes s k c x (word_at words session) until a b status) fourth
-      (subst (λ (x : List ℕ). SessionDoes s k c h x until a b status) fifth does)))))
+  pub session-does : (site keys call : ℕ) (hosts : Option ℕ) (details : Bool) (session : ℕ) (until : Until) (s k c : List ℕ) (h : Option (List ℕ)) (m : List ℕ) (deployment : Deployment) → deployment ≡ ClientSession site keys call hosts details session until → s ≡ word_at words site → k ≡ word_at words keys → c ≡ word_at words call → h ≡ word_if words hosts → m ≡ word_at words session
+      → SessionDoes s k c h m details until a b status → DeploymentDoes deployment words a b status
+  session-does site keys call hosts details session until s k c h m deployment is first second third fourth fifth does =
+      deploys-so (ClientSession site keys call hosts details session until) deployment is
+      (subst (λ (x : List ℕ). SessionDoes x (word_at words keys) (word_at words call) (word_if words hosts) (word_at words session) details until a b status) first
+      (subst (λ (x : List ℕ). SessionDoes s x (word_at words call) (word_if words hosts) (word_at words session) details until a b status) second
+      (subst (λ (x : List ℕ). SessionDoes s k x (word_if words hosts) (word_at words session) details until a b status) third
+      (subst (λ (x : Option (List ℕ)). SessionDoes s k c x (word_at words session) details until a b status) fourth
+      (subst (λ (x : List ℕ). SessionDoes s k c h x details until a b status) fifth does)))))
 
   pub show-does : (site keys : ℕ) (key : Key) (hosts : Option ℕ) (until : Until) (s k : List ℕ) (h : Option (List ℕ)) (deployment : Deployment) → deployment ≡ Show site keys key hosts until → s ≡ word_at words site → k ≡ word_at words keys → h ≡ word_if words hosts
       → ShowDoes s k h key until a b status → DeploymentDoes deployment words a b status

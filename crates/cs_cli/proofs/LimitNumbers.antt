@@ -19,6 +19,7 @@ deployment-limits = record {
   used = refl;
   number = refl;
   tries = refl;
+  asked = refl;
 }
 
 pub text-limits : TextLimitsAre

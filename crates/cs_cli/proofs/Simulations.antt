@@ -9,8 +9,9 @@ use Rattle.cs_cli.specs.Numbers.{size_in, both_numbers, simulated}
 use Rattle.cs_cli.specs.Deployed.{reads_master, deployment_of_word}
 use Rattle.cs_cli.specs.Words.{plain_mode, mode_from, plain_contract, contract_mode_from, plain_command, topic_called, command_of, file_called}
 use Rattle.cs_cli.specs.declared.words.Command.{Command}
-use Rattle.cs_cli.specs.declared.words.Command.TheVariants.{Replay, Contract, Try, Verify, Audit, Simulate, Help, Version, Wallet, ReadKeys, Deploy}
+use Rattle.cs_cli.specs.declared.words.Command.TheVariants.{Replay, Contract, Try, Verify, Audit, Simulate, Help, Version, Wallet, Transaction, ReadKeys, Deploy}
 use Rattle.cs_cli.specs.Wallets.{wallet_called}
+use Rattle.cs_cli.specs.Transactions.{numbered_called}
 
 -- ---- its size is within the limit
 
@@ -88,5 +89,6 @@ command-small (word ∷ options) number size =
     (either-small number size (bytes_eq word (codes "help")) _ _ (other-small number size Help (λ topic q. cc) (topic_called options))
     (either-small number size (bytes_eq word (codes "version")) _ _ (no-plain Version options number size (λ q. cc))
     (either-small number size (bytes_eq word (codes "wallet")) _ _ (other-small number size Wallet (λ call q. cc) (wallet_called options))
+    (either-small number size (bytes_eq word (codes "transaction")) _ _ (other-small number size Transaction (λ session q. cc) (numbered_called options))
     (either-small number size (bytes_eq word (codes "keys") && reads_master options) _ _ (keys-small number size)
-    (other-small number size Deploy (λ deployment q. cc) (deployment_of_word word options)))))))))))
+    (other-small number size Deploy (λ deployment q. cc) (deployment_of_word word options))))))))))))

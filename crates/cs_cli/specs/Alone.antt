@@ -4,7 +4,7 @@ use Rattle.cs_io.specs.Outside.{Outside}
 use Rattle.cs_cli.specs.declared.deployments.Deployment.{Deployment}
 use Rattle.cs_cli.specs.declared.deployments.Deployment.TheVariants.{Node, Client, ClientTries, ClientSession, Show, Keys, Cluster}
 use Rattle.cs_cli.specs.declared.words.Command.{Command}
-use Rattle.cs_cli.specs.declared.words.Command.TheVariants.{Replay, Contract, Try, Verify, Audit, Simulate, Help, Version, Wallet, ReadKeys, Deploy}
+use Rattle.cs_cli.specs.declared.words.Command.TheVariants.{Replay, Contract, Try, Verify, Audit, Simulate, Help, Version, Wallet, Transaction, ReadKeys, Deploy}
 
 -- no link is handed on, and no spawner
 abbrev pub NoLinkNoChild : Outside → Outside → Type 0
@@ -17,9 +17,9 @@ OnlyStreams old new = (new.store ≡ old.store) × NoLinkNoChild old new
 abbrev pub DeploymentLeaves : Deployment → Outside → Outside → Type 0
 DeploymentLeaves (Node site keys hosts until) old new = (new.source ≡ old.source) × (new.spawner ≡ old.spawner)
 DeploymentLeaves (Client site keys call hosts until) old new = (new.source ≡ old.source) × (new.spawner ≡ old.spawner)
-DeploymentLeaves (ClientTries site keys call hosts tries until) old new =
+DeploymentLeaves (ClientTries site keys call hosts wishes until) old new =
     (new.source ≡ old.source) × (new.spawner ≡ old.spawner)
-DeploymentLeaves (ClientSession site keys call hosts session until) old new =
+DeploymentLeaves (ClientSession site keys call hosts details session until) old new =
     (new.source ≡ old.source) × (new.spawner ≡ old.spawner)
 DeploymentLeaves (Show site keys key hosts until) old new = (new.source ≡ old.source) × (new.spawner ≡ old.spawner)
 DeploymentLeaves (Keys site master) old new = (new.source ≡ old.source) × NoLinkNoChild old new
@@ -35,6 +35,7 @@ CommandLeaves (Simulate number size) old new = (new.source ≡ old.source) × On
 CommandLeaves (Help topic) old new = (new.source ≡ old.source) × OnlyStreams old new
 CommandLeaves Version old new = (new.source ≡ old.source) × OnlyStreams old new
 CommandLeaves (Wallet call) old new = (new.source ≡ old.source) × NoLinkNoChild old new
+CommandLeaves (Transaction number) old new = OnlyStreams old new
 CommandLeaves (ReadKeys site) old new = NoLinkNoChild old new
 CommandLeaves (Deploy deployment) old new = DeploymentLeaves deployment old new
 

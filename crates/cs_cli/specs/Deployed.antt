@@ -115,8 +115,8 @@ place_among before place = if nat_le place before then place else place + 2
 abbrev pub StandsNear : Deployment → Type 0
 StandsNear (Node site keys hosts until) = (site ≤ 5) × (keys ≤ 5)
 StandsNear (Client site keys call hosts until) = (site ≤ 5) × (keys ≤ 5) × (call ≤ 5)
-StandsNear (ClientTries site keys call hosts tries until) = Unit {0}
-StandsNear (ClientSession site keys call hosts session until) = Unit {0}
+StandsNear (ClientTries site keys call hosts wishes until) = Unit {0}
+StandsNear (ClientSession site keys call hosts details session until) = Unit {0}
 StandsNear (Show site keys key hosts until) = (site ≤ 5) × (keys ≤ 5)
 StandsNear (Keys site master) = Unit {0}
 StandsNear (Cluster plan) = Unit {0}
@@ -127,9 +127,9 @@ with_hosts before (Node site keys hosts until) =
     Node (place_among before site) (place_among before keys) (Some (before + 2)) until
 with_hosts before (Client site keys call hosts until) =
     Client (place_among before site) (place_among before keys) (place_among before call) (Some (before + 2)) until
-with_hosts before (ClientTries site keys call hosts tries until) = ClientTries site keys call hosts tries until
-with_hosts before (ClientSession site keys call hosts session until) =
-    ClientSession site keys call hosts session until
+with_hosts before (ClientTries site keys call hosts wishes until) = ClientTries site keys call hosts wishes until
+with_hosts before (ClientSession site keys call hosts details session until) =
+    ClientSession site keys call hosts details session until
 with_hosts before (Show site keys key hosts until) =
     Show (place_among before site) (place_among before keys) key (Some (before + 2)) until
 with_hosts before (Keys site master) = Keys site master

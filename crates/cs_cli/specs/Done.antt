@@ -1,5 +1,5 @@
 -- What each command does, by what the objects of the outside told before and after.
-use Rattle.std.specs.Prelude.{◌≡◌, ℕ, List, Option}
+use Rattle.std.specs.Prelude.{◌≡◌, ℕ, Bool, List, Option}
 use Rattle.std.specs.Io.KnownBytes.{Keeps}
 use Rattle.cs_base.specs.Answers.{Answers}
 use Rattle.cs_base.specs.declared.key.Key.{Key}
@@ -23,10 +23,12 @@ use Rattle.cs_deploy.specs.ReadKeys.{ReadKeysRuns, EndsAsRead}
 use Rattle.cs_deploy.specs.Cluster.{ClusterRuns}
 use Rattle.cs_deploy.specs.Node.{NodeRuns}
 use Rattle.cs_deploy.specs.Client.{ClientRuns, IsToldOf}
+use Rattle.cs_deploy.specs.declared.wishes.Wishes.{Wishes}
 use Rattle.cs_deploy.specs.Tries.{TriesRun}
 use Rattle.cs_deploy.specs.Session.{SessionRuns}
 use Rattle.cs_deploy.specs.Show.{show_taken, ShowRuns}
 use Rattle.cs_trial.specs.Command.{TryRuns, TryWhole}
+use Rattle.cs_transact.specs.Command.{TransactionRuns, TransactionWhole}
 use Rattle.cs_wallet.specs.Commands.{WalletRuns, WalletDecided}
 use Rattle.cs_wallet.specs.declared.calls.WalletCall.{WalletCall}
 use Rattle.cs_cli.specs.Answers.{TellsSource, TellsWhole}
@@ -38,7 +40,7 @@ use Rattle.cs_cli.specs.declared.examining.Subject.TheVariants.{Claim, Dump}
 use Rattle.cs_cli.specs.declared.deployments.Deployment.{Deployment}
 use Rattle.cs_cli.specs.declared.deployments.Deployment.TheVariants.{Node, Client, ClientTries, ClientSession, Show, Keys, Cluster}
 use Rattle.cs_cli.specs.declared.words.Command.{Command}
-use Rattle.cs_cli.specs.declared.words.Command.TheVariants.{Replay, Contract, Try, Verify, Audit, Simulate, Help, Version, Wallet, ReadKeys, Deploy}
+use Rattle.cs_cli.specs.declared.words.Command.TheVariants.{Replay, Contract, Try, Verify, Audit, Simulate, Help, Version, Wallet, Transaction, ReadKeys, Deploy}
 
 -- ---- what decides where no fault came about
 
@@ -92,6 +94,13 @@ pub record ExamineDoes (subject : Subject) (old new : Outside) (status : ℕ) : 
   pub whole : Faultless faults_of old.source new.source → Faultless faults_of old.sink new.sink
       → GivesWhole (most_in subject) (examined_answer subject) old.source.told old.sink.told new.sink.told status
 
+-- `transaction` tells of the transaction that the source says, or of the first cause for which it says none
+pub record TransactionDoes (number : Option ℕ) (old new : Outside) (status : ℕ) : Type 0 where
+  pub runs : TransactionRuns number (Faulty faults_of old.source new.source)
+      old.source.told new.source.told old.sink.told new.sink.told status
+  pub whole : Faultless faults_of old.source new.source → Faultless faults_of old.sink new.sink
+      → TransactionWhole number old.source.told old.sink.told new.sink.told status
+
 -- `simulate` answers what the schedule of its number and size comes to, and nothing is read
 pub record SimulateDoes (number size : ℕ) (old new : Outside) (status : ℕ) : Type 0 where
   pub answers : Answers (simulate_answer number size) old.sink.told new.sink.told status
@@ -126,10 +135,10 @@ pub record ClientDoes (site keys call : List ℕ) (hosts : Option (List ℕ)) (u
   pub whole : Faultless faults_of old.store new.store → Faultless faults_of old.link new.link
       → Faultless faults_of old.sink new.sink → ClientDecided site keys call hosts old.store.told status
 
--- with `--tries N` it makes its call again after it was aborted, under the next number
-pub record TriesDo (site keys call : List ℕ) (hosts : Option (List ℕ)) (tries : ℕ) (until : Until) (old new : Outside)
-    (status : ℕ) : Type 0 where
-  pub runs : TriesRun site keys call hosts tries until
+-- where more is asked of it, it makes its call again after it was aborted, under the next number
+pub record TriesDo (site keys call : List ℕ) (hosts : Option (List ℕ)) (wishes : Wishes) (until : Until)
+    (old new : Outside) (status : ℕ) : Type 0 where
+  pub runs : TriesRun site keys call hosts wishes until
       (Faulty faults_of old.store new.store) (Faulty faults_of old.link new.link)
       old.store.told (beside old.link.told old.sink.told) (beside new.link.told new.sink.told) status
   pub kept : Stays old.store.told new.store.told
@@ -137,9 +146,9 @@ pub record TriesDo (site keys call : List ℕ) (hosts : Option (List ℕ)) (trie
       → Faultless faults_of old.sink new.sink → ClientDecided site keys call hosts old.store.told status
 
 -- with `--session HEX` it submits that session of its call, which was made before
-pub record SessionDoes (site keys call : List ℕ) (hosts : Option (List ℕ)) (session : List ℕ) (until : Until)
-    (old new : Outside) (status : ℕ) : Type 0 where
-  pub runs : SessionRuns site keys call hosts session until
+pub record SessionDoes (site keys call : List ℕ) (hosts : Option (List ℕ)) (session : List ℕ) (details : Bool)
+    (until : Until) (old new : Outside) (status : ℕ) : Type 0 where
+  pub runs : SessionRuns site keys call hosts session details until
       (Faulty faults_of old.store new.store) (Faulty faults_of old.link new.link)
       old.store.told (beside old.link.told old.sink.told) (beside new.link.told new.sink.told) status
   pub kept : Stays old.store.told new.store.told
@@ -192,11 +201,11 @@ DeploymentDoes (Node site keys hosts until) words =
     NodeDoes (word_at words site) (word_at words keys) (word_if words hosts) until
 DeploymentDoes (Client site keys call hosts until) words =
     ClientDoes (word_at words site) (word_at words keys) (word_at words call) (word_if words hosts) until
-DeploymentDoes (ClientTries site keys call hosts tries until) words =
-    TriesDo (word_at words site) (word_at words keys) (word_at words call) (word_if words hosts) tries until
-DeploymentDoes (ClientSession site keys call hosts session until) words =
+DeploymentDoes (ClientTries site keys call hosts wishes until) words =
+    TriesDo (word_at words site) (word_at words keys) (word_at words call) (word_if words hosts) wishes until
+DeploymentDoes (ClientSession site keys call hosts details session until) words =
     SessionDoes (word_at words site) (word_at words keys) (word_at words call) (word_if words hosts)
-    (word_at words session) until
+    (word_at words session) details until
 DeploymentDoes (Show site keys key hosts until) words =
     ShowDoes (word_at words site) (word_at words keys) (word_if words hosts) key until
 DeploymentDoes (Keys site master) words = KeysDoes (word_at words site) master
@@ -213,5 +222,6 @@ CommandDoes (Simulate number size) words = SimulateDoes number size
 CommandDoes (Help topic) words = TextDoes (help_text topic)
 CommandDoes Version words = TextDoes version_text
 CommandDoes (Wallet call) words = WalletDoes call (word_at words 2)
+CommandDoes (Transaction number) words = TransactionDoes number
 CommandDoes (ReadKeys site) words = ReadKeysDoes (word_at words site)
 CommandDoes (Deploy deployment) words = DeploymentDoes deployment words

@@ -10,6 +10,7 @@ use Rattle.cs_gen.specs.declared.limits.TheConstants.{MOST_SIZE}
 use Rattle.cs_config.specs.declared.limits.TheConstants.{LEAST_TICK, MOST_TICK}
 use Rattle.cs_onetime.specs.declared.wallet.TheConstants.{LAST_NUMBER, MOST_USED}
 use Rattle.cs_wallet.specs.declared.loading.TheConstants.{MOST_WALLET}
+use Rattle.cs_dummies.specs.declared.limits.TheConstants.{MOST_ASKED}
 use Rattle.cs_serve.specs.declared.receiving.TheConstants.{MOST_MISSED}
 use Rattle.cs_deploy.specs.declared.loading.TheConstants.{MOST_FILE}
 use Rattle.cs_deploy.specs.declared.limits.TheConstants.{MOST_MASTER, MOST_TRIES}
@@ -32,6 +33,7 @@ pub record DeploymentLimitsAre : Type 0 where
   pub used : MOST_USED ≡ 65536  -- numbers of a wallet that have signed
   pub number : LAST_NUMBER ≡ 9223372036854775807  -- of a key
   pub tries : MOST_TRIES ≡ 64  -- of a call
+  pub asked : MOST_ASKED ≡ 64  -- dummies of a shard, from a serial on
 
 -- those of texts
 pub record TextLimitsAre : Type 0 where

@@ -8,10 +8,11 @@ use Rattle.cs_help.specs.declared.topic.Topic.{Topic}
 use Rattle.cs_help.specs.declared.topic.Topic.TheVariants.{Commands}
 use Rattle.cs_cli.specs.declared.report.ContractMode.{ContractMode}
 use Rattle.cs_cli.specs.declared.words.Command.{Command}
-use Rattle.cs_cli.specs.declared.words.Command.TheVariants.{Replay, Contract, Try, Verify, Audit, Simulate, Help, Version, Wallet, ReadKeys, Deploy}
+use Rattle.cs_cli.specs.declared.words.Command.TheVariants.{Replay, Contract, Try, Verify, Audit, Simulate, Help, Version, Wallet, Transaction, ReadKeys, Deploy}
 use Rattle.cs_cli.specs.Numbers.{simulated}
 use Rattle.cs_cli.specs.Deployed.{is_file, reads_master, deployment_of_word}
 use Rattle.cs_cli.specs.Wallets.{wallet_called}
+use Rattle.cs_cli.specs.Transactions.{numbered_called}
 
 -- what the words say, each as its bytes
 abbrev pub texts_of : List (String Global) → List (List ℕ)
@@ -88,6 +89,7 @@ command_of_word word options =
     else if bytes_eq word (codes "help") then option_map Help (topic_called options)
     else if bytes_eq word (codes "version") then plain_command Version options
     else if bytes_eq word (codes "wallet") then option_map Wallet (wallet_called options)
+    else if bytes_eq word (codes "transaction") then option_map Transaction (numbered_called options)
     else if bytes_eq word (codes "keys") && reads_master options then Some (ReadKeys 1)
     else option_map Deploy (deployment_of_word word options)
 

@@ -5,7 +5,7 @@ ghost use Rattle.cs_cli.specs.Deployed.{word_at, word_if, is_file, keys_called, 
 
 use crate::wishes::read_wished;
 use cs_base::Key;
-use cs_deploy::master_in;
+use cs_deploy::{Wishes, master_in};
 use cs_io::Until;
 use cs_tx_value::Digest;
 
@@ -29,14 +29,14 @@ pub enum Deployment {
         hosts: Option<usize>,
         until: Until,
     },
-    /// The same, with so many tries at most: after one that was aborted the call is made again under
-    /// the next number.
+    /// The same, with what else it is asked for: details, how often it is tried, and dummies of its
+    /// own.
     ClientTries {
         site: usize,
         keys: usize,
         call: usize,
         hosts: Option<usize>,
-        tries: u64,
+        wishes: Wishes,
         until: Until,
     },
     /// The same, which submits the session of its call that stands at this place among the words, by
@@ -46,6 +46,7 @@ pub enum Deployment {
         keys: usize,
         call: usize,
         hosts: Option<usize>,
+        details: bool,
         session: usize,
         until: Until,
     },

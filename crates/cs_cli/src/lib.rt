@@ -16,6 +16,7 @@ mod runs;
 mod simulated;
 mod simulation;
 mod telling;
+mod transactions;
 mod verifying;
 mod wallets;
 mod wishes;

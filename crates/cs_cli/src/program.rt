@@ -85,6 +85,7 @@ use cs_io::{Link, Spawner, Store, closing};
 use cs_onetime::{no_number_signs_two_messages, signatures_verify};
 use cs_replay::{replay_source, schedules_are_sound};
 use cs_run_law::{keys_of_files_speak, nodes_serve_their_trails, running_nodes_are_sound};
+use cs_transact::run_transaction;
 use cs_trial::run_try;
 use cs_wallet::run_wallet;
 use std::alloc::Global;
@@ -153,10 +154,11 @@ pub fn run<S: Source, K: Sink, E: Store, L: Link, P: Spawner>(
     // Nothing is injected in the schedule of `simulate`, so it ends with 0, 3 or 13.
     ensures simulate_ends { (number size : ℕ) → IsEndOfReplay (simulate_answer number size) }
 
-    // The keys of each key file speak in the net of any names of which their holder is one, so of
-    // each node it is said what it sends there.
+    // The keys of each key file, in a deployment of version 1, speak in the net of any names of
+    // which their holder is one, so of each node it is said what it sends there.
     ensures keys_speak { (config : Config) (text : List ℕ) (keys : NodeId → FileKeys)
-        (liars : List NodeId) (i : NodeId) → keys_of config text ≡ Ok (keys i) → (keys i).me ≡ i
+        (liars : List NodeId) (i : NodeId) → config.version ≡ 1
+        → keys_of config text ≡ Ok (keys i) → (keys i).me ≡ i
         → Speaks config (net_of_keys config keys liars) (keys i) }
     // A key file tells no more of the master key than the keys that it holds: two master keys that
     // give a name the same keys give it the same file.
@@ -273,6 +275,7 @@ fn answer<S: Source, K: Sink, E: Store, L: Link, P: Spawner>(
         Command::Help(topic) => tell_help(topic, output),
         Command::Version => tell_version(output),
         Command::Wallet(call) => run_wallet(alloc, call, word_at(words, 2), store, output),
+        Command::Transaction(number) => run_transaction(alloc, number, input, output),
         Command::ReadKeys { site } => {
             run_keys_read(alloc, word_at(words, site), input, store, output)
         }
@@ -334,7 +337,7 @@ fn deploy<K: Sink, E: Store, L: Link, P: Spawner>(
             keys,
             call,
             hosts,
-            tries,
+            wishes,
             until,
         } => {
             let site = word_at(words, site);
@@ -342,7 +345,7 @@ fn deploy<K: Sink, E: Store, L: Link, P: Spawner>(
             let call = word_at(words, call);
             let hosts = word_if(words, hosts);
             run_client_tries(
-                alloc, site, keys, call, hosts, tries, until, store, link, output,
+                alloc, site, keys, call, hosts, wishes, until, store, link, output,
             )
         }
         Deployment::ClientSession {
@@ -350,6 +353,7 @@ fn deploy<K: Sink, E: Store, L: Link, P: Spawner>(
             keys,
             call,
             hosts,
+            details,
             session,
             until,
         } => {
@@ -359,7 +363,7 @@ fn deploy<K: Sink, E: Store, L: Link, P: Spawner>(
             let hosts = word_if(words, hosts);
             let session = word_at(words, session);
             run_client_session(
-                alloc, site, keys, call, hosts, session, until, store, link, output,
+                alloc, site, keys, call, hosts, session, details, until, store, link, output,
             )
         }
         Deployment::Show {

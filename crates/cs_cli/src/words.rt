@@ -8,6 +8,7 @@ ghost use Rattle.cs_cli.specs.declared.words.WordsError.TheVariants.{NotText, Me
 use crate::deployments::{Deployment, is_file, read_deployment, reads_master};
 use crate::numbers::read_simulation;
 use crate::report::ContractMode;
+use crate::transactions::read_numbered;
 use crate::wallets::read_wallet;
 use cs_help::{Topic, topic_of};
 use cs_replay::Mode;
@@ -43,6 +44,8 @@ pub enum Command {
     ReadKeys { site: usize },
     /// Does what is called for with the wallet of the file at place 2 among the words.
     Wallet(WalletCall),
+    /// Reads a transaction in words from the input, and tells what it is, and its session of this number.
+    Transaction(Option<u64>),
     /// Runs a node or a client, or saves key files, as the files among the words say.
     Deploy(Deployment),
 }
@@ -135,6 +138,10 @@ fn read_command(word: &str, options: &[String]) -> Option<Command>
         "wallet" => {
             let call = read_wallet(options)?;
             Some(Command::Wallet(call))
+        }
+        "transaction" => {
+            let number = read_numbered(options)?;
+            Some(Command::Transaction(number))
         }
         "keys" if reads_master(options) => Some(Command::ReadKeys { site: 1 }),
         _ => {

@@ -1,6 +1,6 @@
 -- What a client keeps before its first input, and that what it keeps has its form.
 use Rattle.std.proofs.Common.{◌≡◌, ℕ, zero, suc, ◌+◌, ◌*◌, ◌<◌, Bool, true, false, List, [], ◌∷◌, ◌++◌, length, map, Option, Some, None, refl, sym, ap, subst, ◌∙◌, arith, length-set, replicate, if◌then◌else◌}
-use Rattle.std.specs.Prelude.{slice_set, slice_get, bytes_eq, is_some, option_map, ◌==◌}
+use Rattle.std.specs.Prelude.{slice_set, slice_get, bytes_eq, is_some, ◌==◌}
 use Rattle.std.specs.List.{AllByRecursion}
 use Rattle.std.proofs.lemmas.List.{map-append, length-replicate}
 use Rattle.cs_base.specs.declared.config.Config.{Config}
@@ -16,8 +16,10 @@ use Rattle.cs_tx_types.specs.State.{StateFits}
 use Rattle.cs_client.specs.declared.beliefs.Asked.{Asked}
 use Rattle.cs_client.specs.declared.errand.Errand.{Errand}
 use Rattle.cs_client.specs.Objects.{active, free_in, word_told, word_on, words_on, first_believed, shard_of_name}
-use Rattle.cs_client.specs.Dummies.{serial_by, serials_in}
-use Rattle.cs_client.specs.Kept.{WordsTold, told_by_inputs, asked_with, asked_on, shards_below, unheard_on, unheard, with_word, word_of_name, serials_kept, told_with_state, heard_of, WordFits, AskedFits, HasAll, ToldFits, FlagsSayWords, ToldMarked}
+use Rattle.cs_dummies.specs.Named.{named_with}
+use Rattle.cs_client.specs.Nodes.{numbers_below}
+use Rattle.cs_client.specs.Dummies.{named_by, serials_in}
+use Rattle.cs_client.specs.Kept.{WordsTold, told_by_inputs, asked_with, asked_on, unheard_on, unheard, with_word, word_of_name, named_kept, serials_kept, told_with_state, heard_of, WordFits, AskedFits, HasAll, ToldFits, FlagsSayWords, ToldMarked}
 use Rattle.cs_client.proofs.Members.{node_at, same-each}
 use Rattle.cs_client.proofs.Telling.{is_in, is-one, isn't, told-eq}
 
@@ -35,17 +37,17 @@ module _ {A : Type 0} where
       ∙ (ap (λ cs. cs ++ F (node_at shard n) ∷ []) (none-members F c shard n same)
       ∙ (ap (λ y. replicate n c ++ y ∷ []) (same (node_at shard n)) ∙ replicate-more n c))
 
-  none-shards : (F : ℕ → A) (c : A) (n : ℕ) → ((shard : ℕ) → F shard ≡ c) → map F (shards_below n) ≡ replicate n c
+  none-shards : (F : ℕ → A) (c : A) (n : ℕ) → ((shard : ℕ) → F shard ≡ c) → map F (numbers_below n) ≡ replicate n c
   none-shards F c zero same = refl
   none-shards F c (suc n) same =
-      map-append F (shards_below n) (n ∷ [])
+      map-append F (numbers_below n) (n ∷ [])
       ∙ (ap (λ cs. cs ++ F n ∷ []) (none-shards F c n same) ∙ (ap (λ y. replicate n c ++ y ∷ []) (same n) ∙ replicate-more n c))
 
 none-believed : (f n : ℕ) (all : List (Option Object)) → first_believed f all (replicate n None) ≡ None
 none-believed f zero all = refl
 none-believed f (suc n) all = none-believed f n all
 
-pub nothing-told : (e : Errand) → told_by_inputs e [] ≡ unheard e.config e.call.inputs e.call.reads
+pub nothing-told : (e : Errand) → told_by_inputs e [] ≡ unheard e.config e.dummy e.call.inputs e.call.reads
 nothing-told e =
     let n = 3 * e.config.f + 1 in
     let words : (name : List ℕ) → words_on e.config e.keys name [] ≡ replicate n None = λ name.
@@ -55,9 +57,9 @@ nothing-told e =
     ∙ ap (λ b. let one : Asked = record { name = name; words = replicate n None; settled = b } in one) (ap is_some (none-believed e.config.f n (replicate n None))) in
     let inputs = same-each (asked_on e.config e.keys []) (unheard_on n) e.call.inputs asked in
     let reads = same-each (asked_on e.config e.keys []) (unheard_on n) e.call.reads asked in
-    let serials : map (serials_in e.config e.keys []) (shards_below e.config.shards) ≡ replicate e.config.shards (replicate n None) =
-    none-shards (serials_in e.config e.keys []) (replicate n None) e.config.shards (λ shard. none-members (serial_by e.keys []) None shard n (λ node. refl)) in
-    told-eq (told_by_inputs e []) (unheard e.config e.call.inputs e.call.reads) inputs reads serials
+    let serials : map (serials_in e.dummy e.config e.keys []) (numbers_below e.config.shards) ≡ replicate e.config.shards (replicate n []) =
+    none-shards (serials_in e.dummy e.config e.keys []) (replicate n []) e.config.shards (λ shard. none-members (named_by e.dummy e.keys []) [] shard n (λ node. refl)) in
+    told-eq (told_by_inputs e []) (unheard e.config e.dummy e.call.inputs e.call.reads) inputs reads refl serials
 
 -- ---- its form
 
@@ -84,20 +86,20 @@ module _ {X : Type 0} (P : X → Type 0) where
   all-changed f [] h all = tt
   all-changed f (x ∷ xs) h all = (h x all.0, all-changed f xs h all.1)
 
-pub unheard-fits : (config : Config) (inputs reads : List (List ℕ)) → ToldFits config (unheard config inputs reads)
-unheard-fits config inputs reads =
+pub unheard-fits : (config : Config) (first : Option ℕ) (inputs reads : List (List ℕ)) → ToldFits config (unheard config first inputs reads)
+unheard-fits config first inputs reads =
     let n = 3 * config.f + 1 in
     let one : (name : List ℕ) → AskedFits n (unheard_on n name) = λ name.
     record { all = length-replicate n None; fit = all-replicate WordFits n None tt } in
     record {
       inputs = all-map (AskedFits n) (unheard_on n) inputs one;
       reads = all-map (AskedFits n) (unheard_on n) reads one;
-      shards = length-replicate config.shards (replicate n None);
-      serials = all-replicate (HasAll n) config.shards (replicate n None) (length-replicate n None);
+      shards = length-replicate config.shards (replicate n []);
+      serials = all-replicate (HasAll n) config.shards (replicate n []) (length-replicate n []);
     }
 
-pub unheard-marked : (config : Config) (inputs reads : List (List ℕ)) → ToldMarked config.f (unheard config inputs reads)
-unheard-marked config inputs reads =
+pub unheard-marked : (config : Config) (first : Option ℕ) (inputs reads : List (List ℕ)) → ToldMarked config.f (unheard config first inputs reads)
+unheard-marked config first inputs reads =
     let n = 3 * config.f + 1 in
     let one : (name : List ℕ) → FlagsSayWords config.f (unheard_on n name) = λ name. sym (ap is_some (none-believed config.f n (replicate n None))) in
     record { inputs = all-map (FlagsSayWords config.f) (unheard_on n) inputs one; reads = all-map (FlagsSayWords config.f) (unheard_on n) reads one }
@@ -132,7 +134,7 @@ told-marked f name index word asked before = by (bytes_eq asked.name name) where
   by true = refl
   by false = before
 
-kept-all : (n : ℕ) (serials : List (List (Option ℕ))) (shard : ℕ) → shard < length serials → AllByRecursion (HasAll n) serials → HasAll n (serials_kept serials shard)
+kept-all : (n : ℕ) (serials : List (List (List ℕ))) (shard : ℕ) → shard < length serials → AllByRecursion (HasAll n) serials → HasAll n (serials_kept serials shard)
 kept-all n [] shard less all = absurd (omega arith)
 kept-all n (words ∷ serials) zero less all = all.0
 kept-all n (words ∷ serials) (suc shard) less all = kept-all n serials shard (omega arith) all.1
@@ -173,13 +175,13 @@ heard-fits config from k s told known fits before = by (shard_of_key config.shar
       let place = is_in config from known in
       let many = before.shards in
       let words = serials_kept told.serials from.shard in
-      let word = option_map (λ object. serial) (active s) in
+      let named = named_with told.first (serial, is_some (active s)) (named_kept words from.index) in
       record {
         inputs = before.inputs;
         reads = before.reads;
-        shards = length-set told.serials from.shard (slice_set words from.index word) ∙ before.shards;
-        serials = all-set (HasAll n) told.serials from.shard (slice_set words from.index word) before.serials
-            (length-set words from.index word ∙ kept-all n told.serials from.shard (omega arith) before.serials);
+        shards = length-set told.serials from.shard (slice_set words from.index named) ∙ before.shards;
+        serials = all-set (HasAll n) told.serials from.shard (slice_set words from.index named) before.serials
+            (length-set words from.index named ∙ kept-all n told.serials from.shard (omega arith) before.serials);
       }
 
 pub heard-marked : (config : Config) (from : NodeId) (k : Key) (s : State) (told : WordsTold) → ToldMarked config.f told → ToldMarked config.f (heard_of config from k s told)

@@ -5,16 +5,17 @@ use Rattle.std.proofs.lemmas.List.{append_assoc, append-nil}
 use Rattle.std.proofs.lemmas.List.Concat.{flat_map-append}
 use Rattle.cs_base.specs.declared.config.Config.{Config}
 use Rattle.cs_io.specs.declared.link.MemInput.TheVariants as came
-use Rattle.cs_tx_types.specs.Transaction.{Keyed}
+use Rattle.cs_tx_types.specs.Transaction.{Keyed, TxFits}
 use Rattle.cs_tx_types.specs.declared.transaction.Tx.{Tx}
 use Rattle.cs_tx_types.specs.declared.session.Session.{Session}
 use Rattle.cs_tx.specs.Uses.{concerns, concerned_below}
 use Rattle.cs_wire.specs.declared.input.Out.{Out}
-use Rattle.cs_wire_message.specs.declared.message.Message.TheVariants as message
 use Rattle.cs_proc.specs.declared.call.Call.{Call}
 use Rattle.cs_proc.specs.declared.error.ProcError.{ProcError}
 use Rattle.cs_proc.specs.declared.error.ProcError.TheVariants as refusal
-use Rattle.cs_proc.specs.Answering.{AnswersCall, IsMadeTransaction}
+use Rattle.cs_approve.specs.Books.{Contracts}
+use Rattle.cs_proc.specs.Calling.{CallRan}
+use Rattle.cs_proc.specs.Answering.{AnswersCall}
 use Rattle.cs_client.specs.declared.beliefs.Objects.{Objects}
 use Rattle.cs_client.specs.declared.errand.Errand.{Errand}
 use Rattle.cs_client.specs.declared.error.ClientError.{ClientError}
@@ -23,17 +24,16 @@ use Rattle.cs_client.specs.declared.phases.Phase.{Phase as Kept}
 use Rattle.cs_client.specs.declared.phases.Phase.TheVariants as kept
 use Rattle.cs_client.specs.declared.phases.Wanted.{Wanted}
 use Rattle.cs_client.specs.declared.phases.Submission.{Submission}
-use Rattle.cs_client.specs.Nodes.{nodes_of_shards}
 use Rattle.cs_client.specs.Inputs.{ClientInput}
 use Rattle.cs_client.specs.Dummies.{dummies_for}
-use Rattle.cs_client.specs.Calls.{call_on, call_with, ran_with}
+use Rattle.cs_client.specs.Calls.{call_on, call_with, given_tx, ran_with}
 use Rattle.cs_client.specs.Endings.{ending_of}
 use Rattle.cs_client.specs.Sessions.{has_input, session_without_dummies, with_dummies, is_bare, bare_shards}
 use Rattle.cs_client.specs.Phases.{Phase, Asking, Wanting, Submitting, Idle, provided, wanting, after_method, after_call, phase}
 use Rattle.cs_client.specs.Knowing.{knows}
-use Rattle.cs_client.specs.Sayings.{say_to_each, wants, submits, again, on_entering, out_of, outs_of_sayings}
+use Rattle.cs_client.specs.Sayings.{wants_in, wants, submits, again, on_entering, out_of, outs_of_sayings}
 use Rattle.cs_client.specs.Kept.{WordsTold, objects_believed, objects_kept}
-use Rattle.cs_client.specs.Seen.{Client, phase_seen, PhaseFits, IsSoundClient, known_kept, dummies_kept, ready_kept, next_kept, IsFresh, Enters, HasMoved, IsRefusedNow, ClientMoves}
+use Rattle.cs_client.specs.Seen.{Client, phase_seen, PhaseFits, IsSoundClient, known_kept, dummies_kept, ready_kept, next_kept, IsFresh, Enters, IsTaken, HasMoved, IsRefusedNow, ClientMoves}
 use Rattle.cs_client.specs.Hearing.{Keeps, Hears, ClientTakesIn}
 use Rattle.cs_client.specs.Standing.{ClientStandsFor, HasStepped, Steps}
 use Rattle.cs_client.proofs.Knows.{known-so}
@@ -52,7 +52,7 @@ concerned-same config x dummies (suc n) = ap (λ xs. xs ++ (if concerns config x
 
 wants-same : (e : Errand) (x : Session) (dummies : List (ℕ × ℕ)) → wants e (with_dummies x dummies) ≡ wants e x
 wants-same e x dummies =
-    ap (λ shards. say_to_each (nodes_of_shards e.config.f (filter (is_bare e.config x) shards)) (message.Ask None)) (concerned-same e.config x dummies e.config.shards)
+    ap (λ shards. wants_in e.config e.dummy (filter (is_bare e.config x) shards)) (concerned-same e.config x dummies e.config.shards)
 
 entered-asking : (e : Errand) (x : Session) (o : Option (List (ℕ × ℕ))) → on_entering e Asking (provided x o) ≡ wants e x ++ on_entering e (Wanting x) (provided x o)
 entered-asking e x None = sym (append-nil (wants e x))
@@ -114,18 +114,27 @@ ready-from e told o is = by (objects_believed e.config.f told.inputs) (objects_b
 same-call : (a b : Call) → Some a ≡ Some b → a ≡ b
 same-call a b is = cc
 
+-- what is taken is what the run comes to, within its limits
+taken-ran : (given : Option Tx) (book : Contracts) (tx : Tx) (run : CallRan) → IsTaken given book tx run → run ≡ Ok tx.traces
+taken-ran (Some other) book tx run taken = taken.0
+taken-ran None book tx run made = made.ran
+
+pub taken-fits : (given : Option Tx) (book : Contracts) (tx : Tx) (run : CallRan) → IsTaken given book tx run → TxFits tx
+taken-fits (Some other) book tx run taken = taken.1
+taken-fits None book tx run made = made.fits
+
 pub called-moves : (e : Errand) (told : WordsTold) (o : Objects) (tx : Tx) (next : Kept) (before after : List Out) → objects_kept e.config.f told ≡ Some o
-    → IsMadeTransaction e.book tx (ran_with e (call_on e.call o.inputs o.reads)) → Enters e Asking (after_method e (dummies_kept e told) (Ok tx.traces)) next before after → IsFresh e.config next
+    → IsTaken (given_tx e.call) e.book tx (ran_with e (call_on e.call o.inputs o.reads)) → Enters e Asking (after_method e (dummies_kept e told) (Ok tx.traces)) next before after → IsFresh e.config next
     → HasMoved e told kept.Asking next before after
 called-moves e told o tx next before after is made enters fresh =
     let call = call_on e.call o.inputs o.reads in
     let ready = ready-from e told o is in
     let new : next_kept e told Asking ≡ after_method e (dummies_kept e told) (Ok tx.traces) =
-    ap (after_call e (dummies_kept e told)) ready ∙ ap (after_method e (dummies_kept e told)) made.ran in
+    ap (after_call e (dummies_kept e told)) ready ∙ ap (after_method e (dummies_kept e told)) (taken-ran (given_tx e.call) e.book tx (ran_with e call) made) in
     record {
       enters = subst (λ p. Enters e Asking p next before after) (sym new) enters;
       voices = fresh;
-      made = λ other asking has. (tx, subst (λ c. IsMadeTransaction e.book tx (ran_with e c)) (same-call call other (sym ready ∙ has)) made);
+      made = λ other asking has. (tx, subst (λ c. IsTaken (given_tx e.call) e.book tx (ran_with e c)) (same-call call other (sym ready ∙ has)) made);
     }
 
 called-refused : (e : Errand) (told : WordsTold) (o : Objects) (cause : ProcError) → objects_kept e.config.f told ≡ Some o

@@ -14,7 +14,8 @@ use Rattle.cs_wire_message.specs.declared.message.Message.TheVariants as message
 use Rattle.cs_client.specs.declared.known.Known.TheVariants as known
 use Rattle.cs_client.specs.Nodes.{nodes_of_shards}
 use Rattle.cs_client.specs.Objects.{told_in, believed_in}
-use Rattle.cs_client.specs.Dummies.{dummy_word_in, least_named}
+use Rattle.cs_dummies.specs.Named.{named_with, least_named}
+use Rattle.cs_client.specs.Dummies.{dummy_word_in}
 use Rattle.cs_client.specs.Sessions.{bare_shards, with_dummies}
 use Rattle.cs_client.specs.Phases.{Wanting, Submitting, wanting}
 use Rattle.cs_client.specs.Knowing.{is_decision, outcome}
@@ -34,11 +35,23 @@ two_nodes_are = refl
 of_two_objects_the_first_counts : believed_in 1 (Some (coin 9) ∷ Some (coin 5) ∷ Some (coin 5) ∷ Some (coin 9) ∷ []) ≡ Some (coin 9)
 of_two_objects_the_first_counts = refl
 
-of_two_dummies_the_least_counts : least_named 1 (Some 7 ∷ Some 3 ∷ Some 3 ∷ Some 7 ∷ []) ≡ Some 3
+of_two_dummies_the_least_counts : least_named 1 ((7 ∷ []) ∷ (3 ∷ []) ∷ (3 ∷ []) ∷ (7 ∷ []) ∷ []) ≡ Some 3
 of_two_dummies_the_least_counts = refl
 
-a_lesser_one_of_one_node_does_not : least_named 1 (Some 7 ∷ Some 3 ∷ None ∷ Some 7 ∷ []) ≡ Some 7
+a_lesser_one_of_one_node_does_not : least_named 1 ((7 ∷ []) ∷ (3 ∷ []) ∷ [] ∷ (7 ∷ []) ∷ []) ≡ Some 7
 a_lesser_one_of_one_node_does_not = refl
+
+of_any_dummy_the_last_word_counts_alone : named_with None (4, true) (3 ∷ []) ≡ 4 ∷ []
+of_any_dummy_the_last_word_counts_alone = refl
+
+of_those_asked_for_each_counts : named_with (Some 3) (4, true) (3 ∷ []) ≡ 3 ∷ 4 ∷ []
+of_those_asked_for_each_counts = refl
+
+one_is_taken_back : named_with (Some 3) (3, false) (3 ∷ 4 ∷ []) ≡ 4 ∷ []
+one_is_taken_back = refl
+
+one_before_the_first_is_not_named : named_with (Some 3) (2, true) [] ≡ []
+one_before_the_first_is_not_named = refl
 
 -- ---- what a node says
 
@@ -48,7 +61,7 @@ what_is_locked_is_taken_back = refl
 what_is_shared_is_there : told_in (1 ∷ []) (message.Told (key.Object (1 ∷ [])) (state.Shared (coin 5) ([] ∷ []))) ≡ Some (Some (coin 5))
 what_is_shared_is_there = refl
 
-a_shared_dummy_is_not_active : dummy_word_in 0 (message.Told (key.Dummy 0 3) (state.Shared (coin 1) ([] ∷ []))) ≡ Some None
+a_shared_dummy_is_not_active : dummy_word_in 0 (message.Told (key.Dummy 0 3) (state.Shared (coin 1) ([] ∷ []))) ≡ Some (3, false)
 a_shared_dummy_is_not_active = refl
 
 another_name_is_not_told_of : told_in (1 ∷ []) (message.Told (key.Object (2 ∷ [])) (state.Active (coin 5))) ≡ None

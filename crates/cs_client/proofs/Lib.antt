@@ -9,6 +9,8 @@ pub mod Sealing
 pub mod Knows
 pub mod Moving
 pub mod Believing
+mod Waited
 pub mod Taking
+mod Given
 pub mod Entering
 pub mod Examples

@@ -5,7 +5,7 @@ use Rattle.std.proofs.lemmas.List.{map-append, length-map, set_at, set-append_le
 use Rattle.std.proofs.lemmas.Bool.{cases_eq}
 use Rattle.cs_base.specs.declared.node_id.NodeId.{NodeId}
 use Rattle.cs_base.specs.NodeId.{members_below}
-use Rattle.cs_client.specs.Kept.{shards_below}
+use Rattle.cs_client.specs.Nodes.{numbers_below}
 
 abbrev pub node_at : ℕ → ℕ → NodeId
 node_at shard index = record { shard = shard; index = index }
@@ -16,9 +16,9 @@ length-members shard (suc n) =
     let before = length-members shard n in
     length-append (members_below shard n) (node_at shard n ∷ []) ∙ omega arith
 
-pub length-shards : (n : ℕ) → length (shards_below n) ≡ n
+pub length-shards : (n : ℕ) → length (numbers_below n) ≡ n
 length-shards zero = refl
-length-shards (suc n) = let before = length-shards n in length-append (shards_below n) (n ∷ []) ∙ omega arith
+length-shards (suc n) = let before = length-shards n in length-append (numbers_below n) (n ∷ []) ∙ omega arith
 
 module _ {A : Type 0} where
   -- one more at the end, on both sides
@@ -32,10 +32,10 @@ module _ {A : Type 0} where
   same-members F G shard (suc n) same =
       both-more F G (members_below shard n) (node_at shard n) (same-members F G shard n (λ i h. same i (omega arith))) (same n (omega arith))
 
-  pub same-shards : (F G : ℕ → A) (n : ℕ) → ((i : ℕ) → i < n → F i ≡ G i) → map F (shards_below n) ≡ map G (shards_below n)
+  pub same-shards : (F G : ℕ → A) (n : ℕ) → ((i : ℕ) → i < n → F i ≡ G i) → map F (numbers_below n) ≡ map G (numbers_below n)
   same-shards F G zero same = refl
   same-shards F G (suc n) same =
-      both-more F G (shards_below n) n (same-shards F G n (λ i h. same i (omega arith))) (same n (omega arith))
+      both-more F G (numbers_below n) n (same-shards F G n (λ i h. same i (omega arith))) (same n (omega arith))
 
   pub same-each : {X : Type 0} (F G : X → A) (xs : List X) → ((x : X) → F x ≡ G x) → map F xs ≡ map G xs
   same-each F G [] same = refl
@@ -73,16 +73,16 @@ module _ {A : Type 0} where
 
   pub set-shards : (F G : ℕ → A) (n index : ℕ) (word : A) → index < n → G index ≡ word
       → ((i : ℕ) → i < n → (i ≡ index → ⊥) → G i ≡ F i)
-      → map G (shards_below n) ≡ slice_set (map F (shards_below n)) index word
+      → map G (numbers_below n) ≡ slice_set (map F (numbers_below n)) index word
   set-shards F G zero index word less here others = absurd (omega arith)
   set-shards F G (suc n) index word less here others =
       elim (cases_eq index n) [
-        | inl same ↦ rw same (last-set F G (shards_below n) n n word (length-shards n)
+        | inl same ↦ rw same (last-set F G (numbers_below n) n n word (length-shards n)
             (same-shards G F n (λ i h. others i (omega arith) (λ e. omega (arith, same, e))))
             (rw (← same) here))
         | inr other ↦
             let long = length-shards n in
-            front-set F G (shards_below n) n index word (omega (arith, other))
+            front-set F G (numbers_below n) n index word (omega (arith, other))
             (set-shards F G n index word (omega (arith, other)) here (λ i h. others i (omega arith)))
             (others n (omega arith) (λ e. other (sym e)))
       ]
@@ -101,13 +101,24 @@ module _ {A : Type 0} where
   get-seam [] y = refl
   get-seam (x ∷ xs) y = get-seam xs y
 
-  pub get-shards : (F : ℕ → A) (n k : ℕ) → k < n → slice_get (map F (shards_below n)) k ≡ Some (F k)
+  pub get-shards : (F : ℕ → A) (n k : ℕ) → k < n → slice_get (map F (numbers_below n)) k ≡ Some (F k)
   get-shards F zero k less = absurd (omega arith)
   get-shards F (suc n) k less =
-      let e = map-append F (shards_below n) (n ∷ []) in
+      let e = map-append F (numbers_below n) (n ∷ []) in
       elim (cases_eq k n) [
         | inl same ↦
-            let long : length (map F (shards_below n)) ≡ n = length-map (shards_below n) F ∙ length-shards n in
-            rw (same, e) (subst (λ j. slice_get (map F (shards_below n) ++ F n ∷ []) j ≡ Some (F n)) long (get-seam (map F (shards_below n)) (F n)))
-        | inr other ↦ rw e (get-left (map F (shards_below n)) (F n ∷ []) k (F k) (get-shards F n k (omega (arith, other))))
+            let long : length (map F (numbers_below n)) ≡ n = length-map (numbers_below n) F ∙ length-shards n in
+            rw (same, e) (subst (λ j. slice_get (map F (numbers_below n) ++ F n ∷ []) j ≡ Some (F n)) long (get-seam (map F (numbers_below n)) (F n)))
+        | inr other ↦ rw e (get-left (map F (numbers_below n)) (F n ∷ []) k (F k) (get-shards F n k (omega (arith, other))))
+      ]
+
+  pub get-members : (F : NodeId → A) (shard n k : ℕ) → k < n → slice_get (map F (members_below shard n)) k ≡ Some (F (node_at shard k))
+  get-members F shard zero k less = absurd (omega arith)
+  get-members F shard (suc n) k less =
+      let e = map-append F (members_below shard n) (node_at shard n ∷ []) in
+      elim (cases_eq k n) [
+        | inl same ↦
+            let long : length (map F (members_below shard n)) ≡ n = length-map (members_below shard n) F ∙ length-members shard n in
+            rw (same, e) (subst (λ j. slice_get (map F (members_below shard n) ++ F (node_at shard n) ∷ []) j ≡ Some (F (node_at shard n))) long (get-seam (map F (members_below shard n)) (F (node_at shard n))))
+        | inr other ↦ rw e (get-left (map F (members_below shard n)) (F (node_at shard n) ∷ []) k (F (node_at shard k)) (get-members F shard n k (omega (arith, other))))
       ]

@@ -21,7 +21,8 @@ use Rattle.cs_client.specs.declared.phases.Phase.{Phase as Kept}
 use Rattle.cs_client.specs.declared.phases.Phase.TheVariants as kept
 use Rattle.cs_client.specs.Inputs.{ClientInput, said_from}
 use Rattle.cs_client.specs.Objects.{believed}
-use Rattle.cs_client.specs.Dummies.{serials_in, least_named, dummy_believed, with_dummy, dummies_for}
+use Rattle.cs_dummies.specs.Named.{least_named}
+use Rattle.cs_client.specs.Dummies.{serials_in, dummy_believed, with_dummy, dummies_for}
 use Rattle.cs_client.specs.Calls.{objects_with, objects_for, call_with, ready, ran_with}
 use Rattle.cs_client.specs.Sessions.{has_input, session_without_dummies, is_bare, bare_shards}
 use Rattle.cs_client.specs.Phases.{Phase, Asking, Wanting, Submitting, Idle, provided, wanting, after_method, moved, first_phase, phase}
@@ -45,9 +46,9 @@ ready-so e inputs =
     ap (λ i. call_with e.call i (objects_believed e.config.f (told_by_inputs e inputs).reads)) (objects-kept e.config e.keys inputs e.call.inputs)
     ∙ ap (λ r. call_with e.call (objects_for (believed e.config e.keys inputs) e.call.inputs) r) (objects-kept e.config e.keys inputs e.call.reads)
 
-dummy-so : (e : Errand) (inputs : List ClientInput) (shard : ℕ) → shard < e.config.shards → dummies_kept e (told_by_inputs e inputs) shard ≡ dummy_believed e.config e.keys inputs shard
+pub dummy-so : (e : Errand) (inputs : List ClientInput) (shard : ℕ) → shard < e.config.shards → dummies_kept e (told_by_inputs e inputs) shard ≡ dummy_believed e.dummy e.config e.keys inputs shard
 dummy-so e inputs shard low =
-    ap (λ o. least_named e.config.f (unwrap_or o [])) (get-shards (serials_in e.config e.keys inputs) e.config.shards shard low)
+    ap (λ o. least_named e.config.f (unwrap_or o [])) (get-shards (serials_in e.dummy e.config e.keys inputs) e.config.shards shard low)
 
 -- ---- dummies that agree at the shards of the configuration
 
@@ -78,10 +79,13 @@ all-concerned P config x (suc n) h =
     by true = (h n (omega arith), tt)
     by false = tt
 
+-- what holds of all shards of the configuration holds of those that need a dummy
+pub all-bare : (P : ℕ → Type 0) (config : Config) (x : Session) → ((s : ℕ) → s < config.shards → P s) → AllByRecursion P (bare_shards config x)
+all-bare P config x h = all-filter P (is_bare config x) (concerned_shards config x) (all-concerned P config x config.shards h)
+
 wanting-alike : (config : Config) (d d' : ℕ → Option ℕ) (x : Session) → ((s : ℕ) → s < config.shards → d s ≡ d' s) → wanting config d x ≡ wanting config d' x
 wanting-alike config d d' x same =
-    ap (provided x) (dummies-alike d d' (bare_shards config x)
-    (all-filter (λ s. d s ≡ d' s) (is_bare config x) (concerned_shards config x) (all-concerned (λ s. d s ≡ d' s) config x config.shards same)))
+    ap (provided x) (dummies-alike d d' (bare_shards config x) (all-bare (λ s. d s ≡ d' s) config x same))
 
 begun-alike : (e : Errand) (d d' : ℕ → Option ℕ) (run : CallRan) → ((s : ℕ) → s < e.config.shards → d s ≡ d' s) → after_method e d run ≡ after_method e d' run
 begun-alike e d d' (Err error) same = refl
@@ -101,7 +105,7 @@ next-so e past input told before is at =
     ap (λ t. next_kept e t before) is
     ∙ (ap (next_kept e (told_by_inputs e (input ∷ past))) at
     ∙ (ap (λ c. moved e (dummies_kept e (told_by_inputs e (input ∷ past))) c (phase e past)) (ready-so e (input ∷ past))
-    ∙ moved-alike e (dummies_kept e (told_by_inputs e (input ∷ past))) (dummy_believed e.config e.keys (input ∷ past)) (ready e (input ∷ past)) (phase e past) (dummy-so e (input ∷ past))))
+    ∙ moved-alike e (dummies_kept e (told_by_inputs e (input ∷ past))) (dummy_believed e.dummy e.config e.keys (input ∷ past)) (ready e (input ∷ past)) (phase e past) (dummy-so e (input ∷ past))))
 
 -- ---- before submission nothing is decided
 
@@ -128,7 +132,7 @@ none-decided : (e : Errand) (accepted : Bool) (past : List ClientInput) (input :
 none-decided e accepted [] input node h = ap (λ t. t || false) (decides-nothing (first_phase e.session) accepted (said_from e.keys node input) h)
 none-decided e accepted (last ∷ past) input node h =
     ap (λ t. t || has_decided e accepted (last ∷ past) node) (decides-nothing (phase e (last ∷ past)) accepted (said_from e.keys node input) h)
-    ∙ none-decided e accepted past last node (before-moved e (dummy_believed e.config e.keys (last ∷ past)) (ready e (last ∷ past)) (phase e past) h)
+    ∙ none-decided e accepted past last node (before-moved e (dummy_believed e.dummy e.config e.keys (last ∷ past)) (ready e (last ∷ past)) (phase e past) h)
 
 blank-kept : (e : Errand) (accepted : Bool) (past : List ClientInput) (input : ClientInput) (shard : ℕ) (tally : Marks) → IsBefore (phase e past) → IsBlank e.config.f tally → KeepsTally e accepted (input ∷ past) shard tally
 blank-kept e accepted past input shard tally h blank = record {
@@ -201,7 +205,7 @@ module _ (e : Errand) (past : List ClientInput) (input : ClientInput) (told : Wo
         ∙ (ap (λ p. outs_of_sayings e.keys (at_tick input (again e (knows e past) (phase e past))) ++ outs_of_sayings e.keys (on_entering e (phase e past) p)) next-is
         ∙ sym (flat_map-append (out_of e.keys) (at_tick input (again e (knows e past) (phase e past))) (on_entering e (phase e past) (phase e (input ∷ past)))))))
 
-    pub moved-made : (call : Call) → phase e past ≡ Asking → ready e (input ∷ past) ≡ Some call → IsApproved e.book (ran_with e call)
+    pub moved-made : (call : Call) → phase e past ≡ Asking → ready e (input ∷ past) ≡ Some call → IsApproved e (ran_with e call)
     moved-made call asking is = goes.made call (keeps.phase_is ∙ asking) (ready-is ∙ is)
 
   pub moved-refused : (cause : ProcError) → IsRefusedNow e told old cause → MethodIsRefused e past input cause

@@ -1,6 +1,6 @@
 -- What is kept of the inputs, by one input more.
 use Rattle.std.proofs.Common.{◌≡◌, ℕ, ◌+◌, ◌*◌, ◌<◌, Bool, true, false, List, ◌∷◌, map, Option, Some, None, inl, inr, refl, sym, ap, ◌∙◌, arith, if◌then◌else◌}
-use Rattle.std.specs.Prelude.{option_and_then, bytes_eq, slice_set, unwrap_or, ◌==◌, ◌&&◌, drop, []}
+use Rattle.std.specs.Prelude.{option_and_then, bytes_eq, is_some, slice_set, unwrap_or, ◌==◌, ◌&&◌, drop, []}
 use Rattle.std.specs.Int.{w32, from_be_bytes}
 use Rattle.std.proofs.lemmas.Nat.{mod_below}
 use Rattle.std.proofs.lemmas.Bool.{cases_Bool, cases_eq}
@@ -21,9 +21,11 @@ use Rattle.cs_wire_message.specs.declared.message.Message.TheVariants as message
 use Rattle.cs_client.specs.declared.errand.Errand.{Errand}
 use Rattle.cs_client.specs.Inputs.{ClientInput, heard, from_node, said_from, latest, or_none}
 use Rattle.cs_client.specs.Objects.{active, free_in, word_told, object_told, told_in, word_on, shard_of_name, words_on}
-use Rattle.cs_client.specs.Dummies.{serial_told, dummy_told, dummy_word_in, serial_by, serials_in}
-use Rattle.cs_client.specs.Kept.{WordsTold, told_by_inputs, asked_on, asked_with, shards_below, with_word, word_of_name, told_with_state, heard_of, serials_kept}
-use Rattle.cs_client.proofs.Members.{node_at, same-members, same-shards, same-each, set-members, set-shards, each-changed, get-shards}
+use Rattle.cs_dummies.specs.Named.{DummyWord, named_with}
+use Rattle.cs_client.specs.Nodes.{numbers_below}
+use Rattle.cs_client.specs.Dummies.{dummy_told, dummy_word_in, named_after, named_by, serials_in}
+use Rattle.cs_client.specs.Kept.{WordsTold, told_by_inputs, asked_on, asked_with, with_word, word_of_name, told_with_state, heard_of, serials_kept, named_kept, with_dummy_word}
+use Rattle.cs_client.proofs.Members.{node_at, same-members, same-shards, same-each, set-members, set-shards, each-changed, get-shards, get-members}
 
 -- ---- names of nodes
 
@@ -65,7 +67,7 @@ module _ (config : Config) (keys : Keys) (input : ClientInput) (past : List Clie
   abbrev word : List ℕ → NodeId → Option (Option Object)
   word name node = option_and_then (told_in name) (said_from keys node input)
 
-  abbrev serial : NodeId → Option (Option ℕ)
+  abbrev serial : NodeId → Option DummyWord
   serial node = option_and_then (dummy_word_in node.shard) (said_from keys node input)
 
   word-none : (name : List ℕ) (node : NodeId) → word name node ≡ None → word_on keys name (input ∷ past) node ≡ word_on keys name past node
@@ -74,11 +76,11 @@ module _ (config : Config) (keys : Keys) (input : ClientInput) (past : List Clie
   word-some : (name : List ℕ) (node : NodeId) (w : Option Object) → word name node ≡ Some w → word_on keys name (input ∷ past) node ≡ w
   word-some name node w some = ap or_none (latest-some (λ i. option_and_then (told_in name) (said_from keys node i)) input past w some)
 
-  serial-none : (node : NodeId) → serial node ≡ None → serial_by keys (input ∷ past) node ≡ serial_by keys past node
-  serial-none node none = ap or_none (latest-none (λ i. option_and_then (dummy_word_in node.shard) (said_from keys node i)) input past none)
+  serial-none : (first : Option ℕ) (node : NodeId) → serial node ≡ None → named_by first keys (input ∷ past) node ≡ named_by first keys past node
+  serial-none first node none = ap (λ (w : Option DummyWord). named_after first w (named_by first keys past node)) none
 
-  serial-some : (node : NodeId) (w : Option ℕ) → serial node ≡ Some w → serial_by keys (input ∷ past) node ≡ w
-  serial-some node w some = ap or_none (latest-some (λ i. option_and_then (dummy_word_in node.shard) (said_from keys node i)) input past w some)
+  serial-some : (first : Option ℕ) (node : NodeId) (w : DummyWord) → serial node ≡ Some w → named_by first keys (input ∷ past) node ≡ named_with first w (named_by first keys past node)
+  serial-some first node w some = ap (λ (word : Option DummyWord). named_after first word (named_by first keys past node)) some
 
   -- ---- nothing is told
 
@@ -87,9 +89,9 @@ module _ (config : Config) (keys : Keys) (input : ClientInput) (past : List Clie
       ap (asked_with config.f name) (same-members (word_on keys name (input ∷ past)) (word_on keys name past) (shard_of_name config name) (3 * config.f + 1)
       (λ i less. word-none name (node_at (shard_of_name config name) i) (none i less)))
 
-  serials-none : (shard : ℕ) → ((i : ℕ) → i < 3 * config.f + 1 → serial (node_at shard i) ≡ None) → serials_in config keys (input ∷ past) shard ≡ serials_in config keys past shard
-  serials-none shard none =
-      same-members (serial_by keys (input ∷ past)) (serial_by keys past) shard (3 * config.f + 1) (λ i less. serial-none (node_at shard i) (none i less))
+  serials-none : (first : Option ℕ) (shard : ℕ) → ((i : ℕ) → i < 3 * config.f + 1 → serial (node_at shard i) ≡ None) → serials_in first config keys (input ∷ past) shard ≡ serials_in first config keys past shard
+  serials-none first shard none =
+      same-members (named_by first keys (input ∷ past)) (named_by first keys past) shard (3 * config.f + 1) (λ i less. serial-none first (node_at shard i) (none i less))
 
   -- ---- a node says a message
 
@@ -129,8 +131,8 @@ module _ (config : Config) (keys : Keys) (input : ClientInput) (past : List Clie
 
 -- ---- all that is told
 
-pub told-eq : (a b : WordsTold) → a.inputs ≡ b.inputs → a.reads ≡ b.reads → a.serials ≡ b.serials → a ≡ b
-told-eq a b i r s = λ k. record { inputs = i k; reads = r k; serials = s k }
+pub told-eq : (a b : WordsTold) → a.inputs ≡ b.inputs → a.reads ≡ b.reads → a.first ≡ b.first → a.serials ≡ b.serials → a ≡ b
+told-eq a b i r f s = λ k. record { inputs = i k; reads = r k; first = f k; serials = s k }
 
 pub silent : (e : Errand) (input : ClientInput) (past : List ClientInput)
     → ((name : List ℕ) (i : ℕ) → i < 3 * e.config.f + 1 → word e.config e.keys input past name (node_at (shard_of_name e.config name) i) ≡ None)
@@ -141,8 +143,9 @@ silent e input past words serials =
     told-eq (told_by_inputs e (input ∷ past)) (told_by_inputs e past)
     (same-each (asked_on e.config e.keys (input ∷ past)) (asked_on e.config e.keys past) e.call.inputs asked)
     (same-each (asked_on e.config e.keys (input ∷ past)) (asked_on e.config e.keys past) e.call.reads asked)
-    (same-shards (serials_in e.config e.keys (input ∷ past)) (serials_in e.config e.keys past) e.config.shards
-    (λ shard less. serials-none e.config e.keys input past shard (serials shard less)))
+    refl
+    (same-shards (serials_in e.dummy e.config e.keys (input ∷ past)) (serials_in e.dummy e.config e.keys past) e.config.shards
+    (λ shard less. serials-none e.config e.keys input past e.dummy shard (serials shard less)))
 
 -- what doesn't open tells nothing
 pub unheard-told : (e : Errand) (input : ClientInput) (past : List ClientInput) → heard e.keys input ≡ None → told_by_inputs e (input ∷ past) ≡ told_by_inputs e past
@@ -210,14 +213,18 @@ module _ (e : Errand) (input : ClientInput) (past : List ClientInput) (from : No
       (λ i less apart. word-none e.config e.keys input past name (node_at shard i)
       (word-not e.config e.keys input past from (message.Told k s) said name (node_at shard i) (other-index from (node_at shard i) (λ q. apart (sym q)))))
 
-  serials-set : (w : Option ℕ) → from.index < 3 * e.config.f + 1 → dummy_told from.shard k s ≡ Some w
-      → serials_in e.config e.keys (input ∷ past) from.shard ≡ slice_set (serials_in e.config e.keys past from.shard) from.index w
+  serials-set : (w : DummyWord) → from.index < 3 * e.config.f + 1 → dummy_told from.shard k s ≡ Some w
+      → serials_in e.dummy e.config e.keys (input ∷ past) from.shard ≡ with_dummy_word e.dummy from.index w (serials_in e.dummy e.config e.keys past from.shard)
   serials-set w low tells =
-      set-members (serial_by e.keys past) (serial_by e.keys (input ∷ past)) from.shard (3 * e.config.f + 1) from.index w low
-      (serial-some e.config e.keys input past (node_at from.shard from.index) w
+      let before = named_by e.dummy e.keys past in
+      let named = named_with e.dummy w (before (node_at from.shard from.index)) in
+      set-members before (named_by e.dummy e.keys (input ∷ past)) from.shard (3 * e.config.f + 1) from.index named low
+      (serial-some e.config e.keys input past e.dummy (node_at from.shard from.index) w
       (serial-here e.config e.keys input past from (message.Told k s) said (node_at from.shard from.index) (same-place from from.shard from.index refl refl) ∙ tells))
-      (λ i less apart. serial-none e.config e.keys input past (node_at from.shard i)
+      (λ i less apart. serial-none e.config e.keys input past e.dummy (node_at from.shard i)
       (serial-not e.config e.keys input past from (message.Told k s) said (node_at from.shard i) (other-index from (node_at from.shard i) (λ q. apart (sym q)))))
+      ∙ ap (λ (o : Option (List ℕ)). slice_set (serials_in e.dummy e.config e.keys past from.shard) from.index (named_with e.dummy w (unwrap_or o [])))
+      (sym (get-members before from.shard (3 * e.config.f + 1) from.index low))
 
 -- who isn't of the key's shard tells nothing
 told-elsewhere : (e : Errand) (input : ClientInput) (past : List ClientInput) (from : NodeId) (k : Key) (s : State) → heard e.keys input ≡ Some (from, message.Told k s)
@@ -227,7 +234,7 @@ told-elsewhere e input past from (key.Dummy other number) s said apart =
     (λ name. untold e input past from (key.Dummy other number) s said name refl)
     (λ shard low. elim (cases_eq from.shard shard) [
       | inl same ↦ serial-untold e input past from (key.Dummy other number) s said shard
-          (ap (λ t. if t then Some (serial_told number s) else None) (isn't other shard (λ q. apart (q ∙ sym same))))
+          (ap (λ t. if t then Some (number, is_some (active s)) else None) (isn't other shard (λ q. apart (q ∙ sym same))))
       | inr not ↦ serial-elsewhere e input past from (key.Dummy other number) s said shard not
     ])
 told-elsewhere e input past from (key.Object told) s said apart =
@@ -262,28 +269,30 @@ told-object e input past from told s said low at =
     told-eq (told_by_inputs e (input ∷ past)) (told_with_state e.config.f from (key.Object told) (free_in s) (told_by_inputs e past))
     (each-changed before after change e.call.inputs each)
     (each-changed before after change e.call.reads each)
-    (same-shards (serials_in e.config e.keys (input ∷ past)) (serials_in e.config e.keys past) e.config.shards
-    (λ shard less. serials-none e.config e.keys input past shard (serial-untold e input past from (key.Object told) s said shard refl)))
+    refl
+    (same-shards (serials_in e.dummy e.config e.keys (input ∷ past)) (serials_in e.dummy e.config e.keys past) e.config.shards
+    (λ shard less. serials-none e.config e.keys input past e.dummy shard (serial-untold e input past from (key.Object told) s said shard refl)))
 
 told-dummy : (e : Errand) (input : ClientInput) (past : List ClientInput) (from : NodeId) (other number : ℕ) (s : State) → heard e.keys input ≡ Some (from, message.Told (key.Dummy other number) s)
     → from.shard < e.config.shards → from.index < 3 * e.config.f + 1 → other ≡ from.shard
     → told_by_inputs e (input ∷ past) ≡ told_with_state e.config.f from (key.Dummy other number) (active s) (told_by_inputs e past)
 told-dummy e input past from other number s said here low at =
     let k = key.Dummy other number in
-    let w = serial_told number s in
-    let before = serials_in e.config e.keys past in
-    let after = serials_in e.config e.keys (input ∷ past) in
-    let kept : serials_kept (map before (shards_below e.config.shards)) from.shard ≡ before from.shard =
+    let w : DummyWord = (number, is_some (active s)) in
+    let before = serials_in e.dummy e.config e.keys past in
+    let after = serials_in e.dummy e.config e.keys (input ∷ past) in
+    let kept : serials_kept (map before (numbers_below e.config.shards)) from.shard ≡ before from.shard =
     ap (λ o. unwrap_or o []) (get-shards before e.config.shards from.shard here) in
     let asked : (name : List ℕ) → asked_on e.config e.keys (input ∷ past) name ≡ asked_on e.config e.keys past name = λ name.
     asked-none e.config e.keys input past name (untold e input past from k s said name refl) in
     told-eq (told_by_inputs e (input ∷ past)) (told_with_state e.config.f from k (active s) (told_by_inputs e past))
     (same-each (asked_on e.config e.keys (input ∷ past)) (asked_on e.config e.keys past) e.call.inputs asked)
     (same-each (asked_on e.config e.keys (input ∷ past)) (asked_on e.config e.keys past) e.call.reads asked)
-    (set-shards before after e.config.shards from.shard (slice_set (serials_kept (map before (shards_below e.config.shards)) from.shard) from.index w) here
+    refl
+    (set-shards before after e.config.shards from.shard (with_dummy_word e.dummy from.index w (serials_kept (map before (numbers_below e.config.shards)) from.shard)) here
     (serials-set e input past from k s said w low (ap (λ t. if t then Some w else None) (is-one other from.shard at))
-    ∙ ap (λ ws. slice_set ws from.index w) (sym kept))
-    (λ shard less apart. serials-none e.config e.keys input past shard (serial-elsewhere e input past from k s said shard (λ q. apart (sym q)))))
+    ∙ ap (with_dummy_word e.dummy from.index w) (sym kept))
+    (λ shard less apart. serials-none e.config e.keys input past e.dummy shard (serial-elsewhere e input past from k s said shard (λ q. apart (sym q)))))
 
 -- what a node tells of a key
 pub told-heard : (e : Errand) (input : ClientInput) (past : List ClientInput) (from : NodeId) (k : Key) (s : State) → heard e.keys input ≡ Some (from, message.Told k s)

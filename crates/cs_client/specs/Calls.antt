@@ -1,6 +1,9 @@
 -- The call of the method, on the objects that are believed.
-use Rattle.std.specs.Prelude.{ℕ, List, [], ◌∷◌, Option, Some, None, option_map, option_and_then}
+use Rattle.std.specs.Prelude.{ℕ, List, [], ◌∷◌, Option, Some, None, option_map, option_and_then, Ok}
 use Rattle.cs_tx_value.specs.declared.object.Object.{Object}
+use Rattle.cs_base.specs.Fields.{whole_at}
+use Rattle.cs_tx_types.specs.declared.transaction.Tx.{Tx}
+use Rattle.cs_tx_types.specs.Reading.{tx_at}
 use Rattle.cs_tx_types.specs.Transaction.{Keyed}
 use Rattle.cs_config.specs.declared.call.CallFile.{CallFile}
 use Rattle.cs_proc.specs.declared.call.Call.{Call}
@@ -38,6 +41,14 @@ ready e inputs =
     let object = believed e.config e.keys inputs in
     call_with e.call (objects_for object e.call.inputs) (objects_for object e.call.reads)
 
--- what the method comes to
+-- the transaction that the call file has in place of a call, if any
+abbrev pub given_tx : CallFile → Option Tx
+given_tx call = option_and_then (whole_at tx_at) call.transaction
+
+-- it, as it stands; else what the method comes to
+abbrev pub unless_given : Option Tx → CallRan → CallRan
+unless_given (Some tx) run = Ok tx.traces
+unless_given None run = run
+
 abbrev pub ran_with : Errand → Call → CallRan
-ran_with e call = ran e.book call
+ran_with e call = unless_given (given_tx e.call) (ran e.book call)

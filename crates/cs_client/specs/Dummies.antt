@@ -1,5 +1,5 @@
 -- What nodes say of dummies, and what is believed of it.
-use Rattle.std.specs.Prelude.{ℕ, ◌==◌, nat_lt, min, Bool, false, List, [], ◌∷◌, map, count_by, fold, Option, Some, None, option_map, option_and_then, if◌then◌else◌}
+use Rattle.std.specs.Prelude.{ℕ, ◌==◌, List, [], ◌∷◌, map, is_some, Option, Some, None, option_map, option_and_then, if◌then◌else◌}
 use Rattle.cs_base.specs.declared.config.Config.{Config}
 use Rattle.cs_base.specs.declared.key.Key.{Key}
 use Rattle.cs_base.specs.declared.key.Key.TheVariants as key
@@ -8,57 +8,42 @@ use Rattle.cs_tx_types.specs.declared.state.State.{State}
 use Rattle.cs_wire.specs.declared.keys.Keys.{Keys}
 use Rattle.cs_wire_message.specs.declared.message.Message.{Message}
 use Rattle.cs_wire_message.specs.declared.message.Message.TheVariants as message
+use Rattle.cs_dummies.specs.Named.{DummyWord, named_with, least_named}
 use Rattle.cs_client.specs.Nodes.{nodes_in}
-use Rattle.cs_client.specs.Inputs.{ClientInput, said_from, latest, or_none}
+use Rattle.cs_client.specs.Inputs.{ClientInput, said_from}
 use Rattle.cs_client.specs.Objects.{active}
 
 -- ---- what a node says
 
--- the serial, where the state is active
-abbrev pub serial_told : ℕ → State → Option ℕ
-serial_told serial s = option_map (λ object. serial) (active s)
-
--- what is told of the dummies of this shard: the serial of one that is active, or of one that it isn't
-abbrev pub dummy_told : ℕ → Key → State → Option (Option ℕ)
+-- what is told of a dummy of this shard: its serial, and whether it is active
+abbrev pub dummy_told : ℕ → Key → State → Option DummyWord
 dummy_told shard (key.Object name) s = None
-dummy_told shard (key.Dummy other serial) s = if other == shard then Some (serial_told serial s) else None
+dummy_told shard (key.Dummy other serial) s = if other == shard then Some (serial, is_some (active s)) else None
 
-abbrev pub dummy_word_in : ℕ → Message → Option (Option ℕ)
+abbrev pub dummy_word_in : ℕ → Message → Option DummyWord
 dummy_word_in shard (message.Told key state) = dummy_told shard key state
 dummy_word_in shard m = None
 
--- a node's last word on any dummy of its shard: the serial of one that is active, or none
-abbrev pub serial_by : Keys → List ClientInput → NodeId → Option ℕ
-serial_by keys inputs node =
-    or_none (latest (λ input. option_and_then (dummy_word_in node.shard) (said_from keys node input)) inputs)
+-- the dummies that it names, after what it says by one input more
+abbrev pub named_after : Option ℕ → Option DummyWord → List ℕ → List ℕ
+named_after first (Some word) named = named_with first word named
+named_after first None named = named
 
-abbrev pub serials_in : Config → Keys → List ClientInput → ℕ → List (Option ℕ)
-serials_in config keys inputs shard = map (serial_by keys inputs) (nodes_in config.f shard)
+-- the dummies of its shard that a node names
+abbrev pub named_by : Option ℕ → Keys → List ClientInput → NodeId → List ℕ
+named_by first keys [] node = []
+named_by first keys (input ∷ past) node =
+    named_after first (option_and_then (dummy_word_in node.shard) (said_from keys node input))
+    (named_by first keys past node)
+
+abbrev pub serials_in : Option ℕ → Config → Keys → List ClientInput → ℕ → List (List ℕ)
+serials_in first config keys inputs shard = map (named_by first keys inputs) (nodes_in config.f shard)
 
 -- ---- what is believed
 
-abbrev pub names_serial : ℕ → Option ℕ → Bool
-names_serial serial (Some other) = other == serial
-names_serial serial None = false
-
-abbrev pub namers : ℕ → List (Option ℕ) → ℕ
-namers serial words = count_by (names_serial serial) words
-
-abbrev pub lesser : Option ℕ → ℕ → Option ℕ
-lesser (Some other) serial = Some (min other serial)
-lesser None serial = Some serial
-
--- the lesser of what was found so far and of this word, where more than f of all are this word
-abbrev pub least_word : ℕ → List (Option ℕ) → Option ℕ → Option ℕ → Option ℕ
-least_word f all least (Some serial) = if nat_lt f (namers serial all) then lesser least serial else least
-least_word f all least None = least
-
--- the least of the serials that f+1 of the nodes name
-abbrev pub least_named : ℕ → List (Option ℕ) → Option ℕ
-least_named f words = fold (least_word f words) None words
-
-abbrev pub dummy_believed : Config → Keys → List ClientInput → ℕ → Option ℕ
-dummy_believed config keys inputs shard = least_named config.f (serials_in config keys inputs shard)
+-- the dummy of a shard that is taken, where those from the first one on are asked for, or any
+abbrev pub dummy_believed : Option ℕ → Config → Keys → List ClientInput → ℕ → Option ℕ
+dummy_believed first config keys inputs shard = least_named config.f (serials_in first config keys inputs shard)
 
 -- the shards, each with its dummy, where each has one
 abbrev pub with_dummy : ℕ → Option ℕ → Option (List (ℕ × ℕ)) → Option (List (ℕ × ℕ))

@@ -1,5 +1,5 @@
 -- What a client keeps of its inputs.
-use Rattle.std.specs.Prelude.{◌≡◌, ℕ, zero, suc, ◌+◌, ◌*◌, ◌==◌, Bool, false, bytes_eq, is_some, List, [], ◌∷◌, ◌++◌, length, map, replicate, slice_get, slice_set, unwrap_or, Option, Some, None, option_map, option_and_then, if◌then◌else◌}
+use Rattle.std.specs.Prelude.{◌≡◌, ℕ, ◌+◌, ◌*◌, ◌==◌, Bool, false, bytes_eq, is_some, List, [], ◌∷◌, length, map, replicate, slice_get, slice_set, unwrap_or, Option, Some, None, option_map, option_and_then, if◌then◌else◌}
 use Rattle.std.specs.List.{list_all, AllByRecursion}
 use Rattle.cs_base.specs.declared.config.Config.{Config}
 use Rattle.cs_base.specs.declared.key.Key.{Key}
@@ -14,16 +14,19 @@ use Rattle.cs_wire.specs.declared.keys.Keys.{Keys}
 use Rattle.cs_client.specs.declared.beliefs.Asked.{Asked}
 use Rattle.cs_client.specs.declared.beliefs.Objects.{Objects}
 use Rattle.cs_client.specs.declared.errand.Errand.{Errand}
+use Rattle.cs_client.specs.Nodes.{numbers_below}
 use Rattle.cs_client.specs.Inputs.{ClientInput}
 use Rattle.cs_client.specs.Objects.{word_told, words_on, believed_in}
-use Rattle.cs_client.specs.Dummies.{serials_in, least_named}
+use Rattle.cs_dummies.specs.Named.{DummyWord, named_with, least_named}
+use Rattle.cs_client.specs.Dummies.{serials_in}
 use Rattle.cs_client.specs.Calls.{objects_with}
 
 -- the last words of nodes on all that a client is to know
 pub record WordsTold : Type 0 where
   pub inputs : List Asked
   pub reads : List Asked
-  pub serials : List (List (Option ℕ))  -- of each shard
+  pub first : Option ℕ  -- the first dummy that is asked for; else any is
+  pub serials : List (List (List ℕ))  -- of each shard, the dummies that each node names
 
 -- ---- as a function of the inputs
 
@@ -33,15 +36,12 @@ asked_with f name words = record { name = name; words = words; settled = is_some
 abbrev pub asked_on : Config → Keys → List ClientInput → List ℕ → Asked
 asked_on config keys inputs name = asked_with config.f name (words_on config keys name inputs)
 
-abbrev pub shards_below : ℕ → List ℕ
-shards_below zero = []
-shards_below (suc n) = shards_below n ++ n ∷ []
-
 abbrev pub told_by_inputs : Errand → List ClientInput → WordsTold
 told_by_inputs e inputs = record {
   inputs = map (asked_on e.config e.keys inputs) e.call.inputs;
   reads = map (asked_on e.config e.keys inputs) e.call.reads;
-  serials = map (serials_in e.config e.keys inputs) (shards_below e.config.shards);
+  first = e.dummy;
+  serials = map (serials_in e.dummy e.config e.keys inputs) (numbers_below e.config.shards);
 }
 
 -- ---- before the first input
@@ -49,11 +49,12 @@ told_by_inputs e inputs = record {
 abbrev pub unheard_on : ℕ → List ℕ → Asked
 unheard_on members name = record { name = name; words = replicate members None; settled = false }
 
-abbrev pub unheard : Config → List (List ℕ) → List (List ℕ) → WordsTold
-unheard config inputs reads = record {
+abbrev pub unheard : Config → Option ℕ → List (List ℕ) → List (List ℕ) → WordsTold
+unheard config first inputs reads = record {
   inputs = map (unheard_on (3 * config.f + 1)) inputs;
   reads = map (unheard_on (3 * config.f + 1)) reads;
-  serials = replicate config.shards (replicate (3 * config.f + 1) None);
+  first = first;
+  serials = replicate config.shards (replicate (3 * config.f + 1) []);
 }
 
 -- ---- one word more
@@ -65,13 +66,19 @@ with_word f index word asked = asked_with f asked.name (slice_set asked.words in
 abbrev pub word_of_name : ℕ → List ℕ → ℕ → Option Object → Asked → Asked
 word_of_name f name index word asked = if bytes_eq asked.name name then with_word f index word asked else asked
 
--- the words of the nodes of a shard
-abbrev pub serials_kept : List (List (Option ℕ)) → ℕ → List (Option ℕ)
+-- what the nodes of a shard name, and what the one of this index there does
+abbrev pub serials_kept : List (List (List ℕ)) → ℕ → List (List ℕ)
 serials_kept serials shard = unwrap_or (slice_get serials shard) []
 
--- the word of the node of this index there
-abbrev pub with_serial : ℕ → ℕ → Option ℕ → List (List (Option ℕ)) → List (List (Option ℕ))
-with_serial shard index word serials = slice_set serials shard (slice_set (serials_kept serials shard) index word)
+abbrev pub named_kept : List (List ℕ) → ℕ → List ℕ
+named_kept words index = unwrap_or (slice_get words index) []
+
+abbrev pub with_dummy_word : Option ℕ → ℕ → DummyWord → List (List ℕ) → List (List ℕ)
+with_dummy_word first index word words = slice_set words index (named_with first word (named_kept words index))
+
+abbrev pub with_serial : Option ℕ → ℕ → ℕ → DummyWord → List (List (List ℕ)) → List (List (List ℕ))
+with_serial first shard index word serials =
+    slice_set serials shard (with_dummy_word first index word (serials_kept serials shard))
 
 -- a node of the key's shard told of it
 abbrev pub told_with_state : ℕ → NodeId → Key → Option Object → WordsTold → WordsTold
@@ -82,7 +89,7 @@ told_with_state f from (key.Object name) word told =
     }
 told_with_state f from (key.Dummy shard serial) word told =
     record told {
-      serials = with_serial from.shard from.index (option_map (λ object. serial) word) told.serials;
+      serials = with_serial told.first from.shard from.index (serial, is_some word) told.serials;
     }
 
 -- what a node told of a key, where it is one of the key's shard
@@ -110,7 +117,7 @@ pub record AskedFits (members : ℕ) (asked : Asked) : Type 0 where
 abbrev pub EachFits : ℕ → List Asked → Type 0
 EachFits members asked = AllByRecursion (AskedFits members) asked
 
-abbrev pub HasAll : ℕ → List (Option ℕ) → Type 0
+abbrev pub HasAll : ℕ → List (List ℕ) → Type 0
 HasAll members words = length words ≡ members
 
 -- words of all nodes of all shards
@@ -133,7 +140,7 @@ are_settled asked = list_all (λ one. one.settled) asked
 abbrev pub FlagsSayWords : ℕ → Asked → Type 0
 FlagsSayWords f asked = asked.settled ≡ is_some (believed_in f asked.words)
 
-abbrev pub dummy_kept : ℕ → List (List (Option ℕ)) → ℕ → Option ℕ
+abbrev pub dummy_kept : ℕ → List (List (List ℕ)) → ℕ → Option ℕ
 dummy_kept f serials shard = least_named f (serials_kept serials shard)
 
 -- the objects of both, where there are both

@@ -14,3 +14,4 @@ pub mod Voices
 pub mod Seen
 pub mod Hearing
 pub mod Standing
+pub mod Waits

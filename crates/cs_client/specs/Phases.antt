@@ -65,4 +65,4 @@ first_phase (Some x) = Submitting x
 abbrev pub phase : Errand → List ClientInput → Phase
 phase e [] = first_phase e.session
 phase e (input ∷ past) =
-    moved e (dummy_believed e.config e.keys (input ∷ past)) (ready e (input ∷ past)) (phase e past)
+    moved e (dummy_believed e.dummy e.config e.keys (input ∷ past)) (ready e (input ∷ past)) (phase e past)

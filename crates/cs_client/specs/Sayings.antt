@@ -1,5 +1,5 @@
 -- What a client says, by its inputs.
-use Rattle.std.specs.Prelude.{ℕ, List, [], ◌∷◌, ◌++◌, map, Option, Some, None}
+use Rattle.std.specs.Prelude.{ℕ, ◌+◌, ◌^◌, nat_lt, List, [], ◌∷◌, ◌++◌, map, Option, Some, None, if◌then◌else◌}
 use Rattle.std.specs.List.{flat_map}
 use Rattle.cs_base.specs.declared.config.Config.{Config}
 use Rattle.cs_base.specs.declared.key.Key.TheVariants as key
@@ -19,7 +19,8 @@ use Rattle.cs_wire.specs.Datagram.{datagram_with}
 use Rattle.cs_client.specs.declared.errand.Errand.{Errand}
 use Rattle.cs_client.specs.declared.known.Known.{Known}
 use Rattle.cs_client.specs.declared.known.Known.TheVariants as known
-use Rattle.cs_client.specs.Nodes.{nodes_in, nodes_of_shards}
+use Rattle.cs_dummies.specs.declared.limits.TheConstants.{MOST_ASKED}
+use Rattle.cs_client.specs.Nodes.{nodes_in, nodes_of_shards, numbers_below}
 use Rattle.cs_client.specs.Inputs.{ClientInput}
 use Rattle.cs_client.specs.Objects.{shard_of_name}
 use Rattle.cs_client.specs.Sessions.{bare_shards}
@@ -44,9 +45,23 @@ asks_on config name =
 abbrev pub asks : Errand → List Saying
 asks e = flat_map (asks_on e.config) e.call.inputs ++ flat_map (asks_on e.config) e.call.reads
 
--- it asks the nodes of the concerned shards without an input for any dummy
+-- it asks the nodes of a shard for the dummy so far behind the first one
+abbrev pub wants_one : Config → ℕ → ℕ → ℕ → List Saying
+wants_one config first shard number =
+    if nat_lt (first + number) (2 ^ 64)
+    then say_to_each (nodes_in config.f shard) (message.Ask (Some (key.Dummy shard (first + number)))) else []
+
+abbrev pub wants_from : Config → ℕ → ℕ → List Saying
+wants_from config first shard = flat_map (wants_one config first shard) (numbers_below MOST_ASKED)
+
+-- it asks the nodes of these shards for dummies from the first one on, or for any
+abbrev pub wants_in : Config → Option ℕ → List ℕ → List Saying
+wants_in config (Some first) shards = flat_map (wants_from config first) shards
+wants_in config None shards = say_to_each (nodes_of_shards config.f shards) (message.Ask None)
+
+-- it wants one of each concerned shard without an input
 abbrev pub wants : Errand → Session → List Saying
-wants e x = say_to_each (nodes_of_shards e.config.f (bare_shards e.config x)) (message.Ask None)
+wants e x = wants_in e.config e.dummy (bare_shards e.config x)
 
 -- it submits the session to the nodes of all concerned shards
 abbrev pub submits : Errand → Session → List Saying

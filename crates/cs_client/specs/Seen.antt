@@ -1,8 +1,9 @@
 -- What contracts see of a phase as a client keeps it.
-use Rattle.std.specs.Prelude.{◌≡◌, ℕ, Bool, true, false, bytes_eq, List, Option, Some, Result, Ok, Err, ◌++◌}
+use Rattle.std.specs.Prelude.{◌≡◌, ℕ, Bool, true, false, bytes_eq, List, Option, Some, None, Result, Ok, Err, ◌++◌}
 use Rattle.std.specs.List.{list_all, list_any}
 use Rattle.cs_base.specs.declared.config.Config.{Config}
 use Rattle.cs_tx_types.specs.Session.{SessionFits}
+use Rattle.cs_tx_types.specs.Transaction.{TxFits}
 use Rattle.cs_tx_types.specs.declared.transaction.Tx.{Tx}
 use Rattle.cs_tx.specs.Digest.{digest_of_session}
 use Rattle.cs_tx.specs.Uses.{concerned_shards}
@@ -25,7 +26,7 @@ use Rattle.cs_client.specs.declared.phases.Phase.TheVariants as kept
 use Rattle.cs_client.specs.declared.phases.Wanted.{Wanted}
 use Rattle.cs_client.specs.declared.phases.Submission.{Submission}
 use Rattle.cs_client.specs.Nodes.{nodes_of_shards}
-use Rattle.cs_client.specs.Calls.{call_with, ran_with}
+use Rattle.cs_client.specs.Calls.{call_with, given_tx, ran_with}
 use Rattle.cs_client.specs.Sessions.{has_input, bare_shards}
 use Rattle.cs_client.specs.Phases.{Phase, Asking, Wanting, Submitting, Idle, moved}
 use Rattle.cs_client.specs.Knowing.{outcome}
@@ -139,16 +140,25 @@ pub record Enters (e : Errand) (old new : Phase) (next : Kept) (before after : L
   pub fits : PhaseFits e.config next
   pub said : after ≡ before ++ outs_of_sayings e.keys (on_entering e old new)
 
--- the method gives a transaction that the book approves
-abbrev pub IsApproved : Contracts → CallRan → Type 0
-IsApproved contracts run = (tx : Tx) × IsMadeTransaction contracts tx run
+-- a transaction that was given is taken as it is; else the method gives one that the book approves
+abbrev pub IsTaken : Option Tx → Contracts → Tx → CallRan → Type 0
+IsTaken (Some given) contracts tx run = (run ≡ Ok tx.traces) × TxFits tx
+IsTaken None contracts tx run = IsMadeTransaction contracts tx run
+
+abbrev pub IsApproved : Errand → CallRan → Type 0
+IsApproved e run = (tx : Tx) × IsTaken (given_tx e.call) e.book tx run
+
+-- what was answered: a transaction that is taken, or the run's refusal
+abbrev pub TakesTransaction : Errand → CallRan → Result Tx ProcError → Type 0
+TakesTransaction e run (Ok tx) = IsTaken (given_tx e.call) e.book tx run
+TakesTransaction e run (Err cause) = AnswersCall e.book run (Err cause)
 
 -- the phase moved on; where the first one ended, the method was run
 pub record HasMoved (e : Errand) (told : WordsTold) (old next : Kept) (before after : List Out) : Type 0 where
   pub enters : Enters e (phase_seen old) (next_kept e told (phase_seen old)) next before after
   pub voices : StaysOrFresh e.config old next
   pub made : (call : Call) → phase_seen old ≡ Asking → ready_kept e told ≡ Some call
-      → IsApproved e.book (ran_with e call)
+      → IsApproved e (ran_with e call)
 
 -- the first phase ends, and the method is refused
 pub record IsRefusedNow (e : Errand) (told : WordsTold) (old : Kept) (cause : ProcError) : Type 0 where

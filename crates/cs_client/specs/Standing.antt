@@ -1,5 +1,5 @@
 -- For which inputs a client stands, and what a step makes.
-use Rattle.std.specs.Prelude.{◌≡◌, ◌+◌, List, ◌∷◌, Option, Some, None, Result, Ok, Err}
+use Rattle.std.specs.Prelude.{◌≡◌, ℕ, ◌+◌, List, ◌∷◌, Option, Some, None, Result, Ok, Err}
 use Rattle.cs_config.specs.declared.site.Site.{Site}
 use Rattle.cs_config.specs.declared.call.CallFile.{CallFile}
 use Rattle.cs_tx_types.specs.declared.session.Session.{Session}
@@ -20,13 +20,20 @@ use Rattle.cs_client.specs.Sayings.{says_at, outs_of_sayings}
 use Rattle.cs_client.specs.Seen.{Client, IsApproved}
 use Rattle.cs_client.specs.Hearing.{Keeps}
 
--- what a client is to do that makes this call at a site, or submits the session of it that was made before
-abbrev pub errand_with : Site → Keys → Contracts → CallFile → Option Session → Errand
-errand_with site keys book call session =
-    record { config = site.config; keys = keys; book = book; call = call; session = session }
+-- what a client is to do that makes this call at a site, or submits the session of it that was made before; it asks for
+-- dummies from this serial on, or for any
+abbrev pub errand_with : Site → Keys → Contracts → CallFile → Option Session → Option ℕ → Errand
+errand_with site keys book call session dummy = record {
+  config = site.config;
+  keys = keys;
+  book = book;
+  call = call;
+  session = session;
+  dummy = dummy;
+}
 
 abbrev pub errand_for : Site → Keys → Contracts → CallFile → Errand
-errand_for site keys book call = errand_with site keys book call None
+errand_for site keys book call = errand_with site keys book call None None
 
 -- the same call, under the next number
 abbrev pub errand_again : Errand → Errand
@@ -43,7 +50,7 @@ pub record HasStepped (e : Errand) (past : List ClientInput) (input : ClientInpu
   pub stands : ClientStandsFor e (input ∷ past) client
   pub says : outs ≡ outs_of_sayings e.keys (says_at e input past)
   pub made : (call : Call) → phase e past ≡ Asking → ready e (input ∷ past) ≡ Some call
-      → IsApproved e.book (ran_with e call)
+      → IsApproved e (ran_with e call)
 
 -- the first phase ends at this input, and its method is refused
 pub record MethodIsRefused (e : Errand) (past : List ClientInput) (input : ClientInput) (cause : ProcError)

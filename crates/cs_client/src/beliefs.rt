@@ -1,10 +1,11 @@
 //! What nodes told a client last, of the objects of its call and of dummies.
-ghost use Rattle.std.specs.Prelude.{◌≡◌, ◌+◌, ◌*◌, ◌≤◌, map, replicate, None, option_map, OnOk, IfOk};
-ghost use Rattle.cs_client.specs.Kept.{unheard_on, with_word, word_of_name, WordFits, AskedFits, EachFits, are_settled, objects_believed};
+ghost use Rattle.std.specs.Prelude.{◌≡◌, ◌+◌, ◌*◌, ◌<◌, ◌≤◌, ◌++◌, map, replicate, length, [], None, OnOk, IfOk};
+ghost use Rattle.cs_client.specs.Kept.{unheard_on, with_word, word_of_name, named_kept, with_dummy_word, WordFits, AskedFits, EachFits, are_settled, objects_believed};
+ghost use Rattle.cs_client.specs.Waits.{unsettled};
 
-use crate::dummies::least_named;
 use crate::objects::{believed, copy_word, put_word, word_told};
 use cs_base::{Config, Key, Memory, NodeId, Sequence, shard_of};
+use cs_dummies::{least_named, named_with};
 use cs_tx_types::State;
 use cs_tx_value::{Digest, Encoded, Object};
 use std::alloc::Global;
@@ -34,8 +35,10 @@ pub struct Beliefs {
     inputs: Vec<Asked>,
     /// On those that it may read.
     reads: Vec<Asked>,
-    /// Of each shard, and of each node there, the serial of the dummy that it told as active.
-    serials: Vec<Sequence<Option<u64>>>,
+    /// The serial from which on dummies are asked for, or none where any is.
+    first: Option<u64>,
+    /// Of each shard, and of each node there, the serials of the dummies that it names.
+    serials: Vec<Sequence<Sequence<u64>>>,
 }
 
 impl Model for Beliefs {
@@ -50,12 +53,13 @@ impl Model for Beliefs {
     ghost view = { λ b. record {
       inputs = b.inputs.items;
       reads = b.reads.items;
+      first = b.first;
       serials = b.serials.items;
     } };
 }
 
 // No word of so many nodes.
-fn no_words<T: Drop>(alloc: Global, members: u16) -> Result<Sequence<Option<T>>, Memory>
+fn no_words(alloc: Global, members: u16) -> Result<Sequence<Option<Object>>, Memory>
     ensures { IfOk result (λ words. words ≡ replicate members None) }
 {
     let mut words = Sequence::new(alloc);
@@ -80,29 +84,59 @@ fn unheard(alloc: Global, names: &[Digest], members: u16) -> Result<Vec<Asked>, 
     Ok(asked)
 }
 
+// So many nodes that name no dummy.
+fn none_named(alloc: Global, members: u16) -> Result<Sequence<Sequence<u64>>, Memory>
+    ensures { IfOk result (λ words. words ≡ replicate members []) }
+{
+    let mut words = Sequence::new(alloc);
+    for _member in 0..members {
+        words.push(Sequence::new(alloc))?;
+    }
+    Ok(words)
+}
+
 // Shards of which no node has told of a dummy.
 fn no_serials(
     alloc: Global,
     shards: u16,
     members: u16,
-) -> Result<Vec<Sequence<Option<u64>>>, Memory>
-    ensures { IfOk result (λ all. all.items ≡ replicate shards (replicate members None)) }
+) -> Result<Vec<Sequence<Sequence<u64>>>, Memory>
+    ensures { IfOk result (λ all. all.items ≡ replicate shards (replicate members [])) }
 {
     let mut all = Vec::new(alloc);
     for _shard in 0..shards {
-        all.push(no_words(alloc, members)?)?;
+        all.push(none_named(alloc, members)?)?;
     }
     Ok(all)
 }
 
-// The serial, where there is a word.
-fn serial_of(word: &Option<Object>, serial: u64) -> Option<u64>
-    ensures { result ≡ option_map (λ object. serial) word.now }
+// What the node of this index names.
+fn named_at(words: &[Sequence<u64>], index: usize) -> &[u64]
+    ensures { result.now ≡ named_kept words.now index }
 {
-    match word {
-        Some(_) => Some(serial),
-        None => None,
+    match words.get(index) {
+        Some(named) => named.as_slice(),
+        None => &[],
     }
+}
+
+// Hears a node's word on a dummy, where these are named by the nodes of its shard.
+fn hear_dummy(
+    alloc: Global,
+    first: Option<u64>,
+    words: &mut Sequence<Sequence<u64>>,
+    index: u16,
+    serial: u64,
+    active: bool,
+) -> Result<(), Memory>
+    requires { index < length words.old }
+    ensures { OnOk result (words.new ≡ with_dummy_word first index (serial, active) words.old) }
+{
+    let place = usize::from(index);
+    let before = named_at(words.as_slice(), place);
+    let named = named_with(alloc, first, serial, active, before)?;
+    put_word(alloc, words, place, named);
+    Ok(())
 }
 
 // Hears a node's word on a name.
@@ -172,41 +206,64 @@ fn objects_in(
     Ok(Some(objects))
 }
 
+// Adds the names of these under which no object is believed.
+fn add_unsettled(names: &mut Sequence<Digest>, asked: &[Asked]) -> Result<(), Memory>
+    ensures { OnOk result (names.new ≡ names.old ++ unsettled asked.now) }
+{
+    for one in asked {
+        if !one.settled {
+            names.push(one.name)?;
+        }
+    }
+    Ok(())
+}
+
 impl Beliefs {
-    ghost use Rattle.std.specs.Prelude.{◌≡◌, ◌<◌, ◌≤◌, ◌*◌, true, length, OnOk, IfOk, IfSome};
+    ghost use Rattle.std.specs.Prelude.{◌≡◌, ◌<◌, ◌≤◌, ◌*◌, true, length, filter, OnOk, IfOk, IfSome};
     ghost use Rattle.std.specs.List.{AllByRecursion};
     ghost use Rattle.cs_tx_types.specs.Session.{DummyFits};
     ghost use Rattle.cs_base.specs.NodeId.{is_node};
     ghost use Rattle.cs_tx_types.specs.State.{StateFits};
     ghost use Rattle.cs_client.specs.Dummies.{dummies_for};
+    ghost use Rattle.cs_client.specs.Waits.{names_unsettled, lacks_kept};
     ghost use Rattle.cs_client.specs.Kept.{unheard, ToldFits, ToldMarked, WordFits, with_serial, told_with_state, heard_of, objects_kept, serials_kept, dummy_kept};
 
     /// What a client has been told before its first input: nothing.
     pub fn new(
         alloc: Global,
         config: &Config,
+        first: Option<u64>,
         inputs: &[Digest],
         reads: &[Digest],
     ) -> Result<Beliefs, Memory>
-        ensures { IfOk result (λ beliefs. beliefs ≡ unheard config.now inputs.now reads.now) }
+        ensures { IfOk result (λ beliefs. beliefs ≡ unheard config.now first inputs.now reads.now) }
     {
         let members = 3 * config.f + 1;
         Ok(Beliefs {
             inputs: unheard(alloc, inputs, members)?,
             reads: unheard(alloc, reads, members)?,
+            first,
             serials: no_serials(alloc, config.shards, members)?,
         })
     }
 
-    // Hears a node's word on the dummies of its shard.
-    fn hear_serial(&mut self, alloc: Global, from: NodeId, word: Option<u64>)
+    // Hears a node's word on a dummy of its shard.
+    fn hear_serial(
+        &mut self,
+        alloc: Global,
+        from: NodeId,
+        serial: u64,
+        active: bool,
+    ) -> Result<(), Memory>
         requires { from.index < length (serials_kept self.old.serials from.shard) }
-        ensures { self.new ≡ record self.old {
-          serials = with_serial from.shard from.index word self.old.serials;
-        } }
+        ensures { OnOk result (self.new ≡ record self.old {
+          serials = with_serial self.old.first from.shard from.index (serial, active) self.old.serials;
+        }) }
     {
-        if let Some(words) = self.serials.get_mut(usize::from(from.shard)) {
-            put_word(alloc, words, usize::from(from.index), word);
+        let first = self.first;
+        match self.serials.get_mut(usize::from(from.shard)) {
+            Some(words) => hear_dummy(alloc, first, words, from.index, serial, active),
+            None => Ok(()),
         }
     }
 
@@ -230,7 +287,7 @@ impl Beliefs {
                 hear_words(alloc, config, &mut self.inputs, &name, from.index, word)?;
                 hear_words(alloc, config, &mut self.reads, &name, from.index, word)?;
             }
-            Key::Dummy(_, serial) => self.hear_serial(alloc, from, serial_of(word, serial)),
+            Key::Dummy(_, serial) => self.hear_serial(alloc, from, serial, word.is_some())?,
         }
         Ok(())
     }
@@ -302,5 +359,29 @@ impl Beliefs {
             dummies.push((*shard, serial))?;
         }
         Ok(Some(dummies))
+    }
+
+    /// The names under which no object is believed, those of objects to be used up first.
+    pub fn unsettled(&self, alloc: Global) -> Result<Sequence<Digest>, Memory>
+        ensures { IfOk result (λ names. names ≡ names_unsettled self.now) }
+    {
+        let mut names = Sequence::new(alloc);
+        add_unsettled(&mut names, &self.inputs)?;
+        add_unsettled(&mut names, &self.reads)?;
+        Ok(names)
+    }
+
+    /// Those of these shards in which no dummy is believed.
+    pub fn lacking(&self, alloc: Global, f: u16, shards: &[u16]) -> Result<Sequence<u16>, Memory>
+        ensures { IfOk result (λ lacking.
+            lacking ≡ filter (lacks_kept f self.now.serials) shards.now) }
+    {
+        let mut lacking = Sequence::new(alloc);
+        for shard in shards {
+            if self.dummy_in(f, *shard).is_none() {
+                lacking.push(*shard)?;
+            }
+        }
+        Ok(lacking)
     }
 }

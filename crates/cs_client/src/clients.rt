@@ -15,6 +15,7 @@ use crate::errand::Errand;
 use crate::error::ClientError;
 use crate::known::Known;
 use crate::phases::{Phase, first, known_in, moved, say_again, submitted};
+use crate::waiting::{Waiting, waiting_in};
 use cs_approve::Book;
 use cs_base::{Config, Memory, NodeId, Sequence};
 use cs_config::{CallFile, Site};
@@ -159,6 +160,7 @@ impl ClientCore {
     ghost use Rattle.cs_client.specs.Knowing.{knows};
     ghost use Rattle.cs_client.specs.Phases.{submitted};
     ghost use Rattle.cs_client.specs.Standing.{errand_with, errand_again, ClientStandsFor, Steps};
+    ghost use Rattle.cs_client.specs.Waits.{waiting};
     ghost use Rattle.cs_tx_types.specs.Session.{SessionFits};
 
     /// The client that makes this call, or submits the session of it that was made before; before
@@ -171,14 +173,16 @@ impl ClientCore {
         book: Book,
         call: CallFile,
         session: Option<Session>,
+        dummy: Option<u64>,
     ) -> Result<ClientCore, Memory>
         requires { IfSome session SessionFits }
-        ensures { IfOk result (ClientStandsFor (errand_with site keys book call session) []) }
+        ensures { IfOk result (ClientStandsFor (errand_with site keys book call session dummy) []) }
     {
         let config = site.config;
         let beliefs = Beliefs::new(
             alloc,
             &config,
+            dummy,
             call.inputs.as_slice(),
             call.reads.as_slice(),
         )?;
@@ -188,6 +192,7 @@ impl ClientCore {
             book,
             call,
             session,
+            dummy,
         };
         let phase = first(alloc, &errand)?;
         Ok(ClientCore {
@@ -239,6 +244,20 @@ impl ClientCore {
         &self.errand.config
     }
 
+    /// The keys of the client.
+    pub fn keys(&self) -> &Keys
+        ensures { result.now ≡ self.now.errand.keys }
+    {
+        &self.errand.keys
+    }
+
+    /// The call that the client makes.
+    pub fn call(&self) -> &CallFile
+        ensures { result.now ≡ self.now.errand.call }
+    {
+        &self.errand.call
+    }
+
     /// The number of the call.
     pub fn number(&self) -> u64
         ensures { result ≡ self.now.errand.call.number }
@@ -263,6 +282,7 @@ impl ClientCore {
         let beliefs = Beliefs::new(
             alloc,
             &errand.config,
+            errand.dummy,
             errand.call.inputs.as_slice(),
             errand.call.reads.as_slice(),
         )?;
@@ -279,5 +299,13 @@ impl ClientCore {
             result ≡ knows e inputs }
     {
         known_in(&self.errand, &self.phase)
+    }
+
+    /// What the client waits for.
+    pub fn waiting(&self, alloc: Global) -> Result<Waiting, Memory>
+        ensures { (e : AnyErrand) (inputs : List ClientInput) → ClientStandsFor e inputs self.now →
+            IfOk result (λ so. so ≡ waiting e inputs) }
+    {
+        waiting_in(alloc, &self.errand, &self.beliefs, &self.phase)
     }
 }

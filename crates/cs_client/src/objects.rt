@@ -29,12 +29,7 @@ pub fn word_told(key: &Key, state: State) -> Option<Object>
 }
 
 /// Puts a word in the place of another.
-pub fn put_word<T: Drop>(
-    alloc: Global,
-    words: &mut Sequence<Option<T>>,
-    place: usize,
-    word: Option<T>,
-)
+pub fn put_word<T: Drop>(alloc: Global, words: &mut Sequence<T>, place: usize, word: T)
     requires { place < length words.old }
     ensures { words.new ≡ slice_set words.old place word }
 {

@@ -151,7 +151,14 @@ fn begun(
     }
     let session = bare(alloc, tx, errand.call.number);
     let shards = bare_shards(alloc, &errand.config, &session)?;
-    want_dummies(alloc, &errand.config, &errand.keys, shards.as_slice(), outs)?;
+    want_dummies(
+        alloc,
+        &errand.config,
+        &errand.keys,
+        errand.dummy,
+        shards.as_slice(),
+        outs,
+    )?;
     provided(alloc, errand, beliefs, Wanted { session, shards }, outs)
 }
 
@@ -239,7 +246,8 @@ pub fn say_again(
             ask_each(alloc, config, &errand.keys, call.reads.as_slice(), outs)
         }
         Phase::Wanting(wanted) => {
-            want_dummies(alloc, config, &errand.keys, wanted.shards.as_slice(), outs)
+            let shards = wanted.shards.as_slice();
+            want_dummies(alloc, config, &errand.keys, errand.dummy, shards, outs)
         }
         Phase::Submitting(submission) => match known_in(errand, phase) {
             Known::Open => submit(alloc, errand, submission, outs),

@@ -5,7 +5,6 @@ use Rattle.cs_io.specs.Store.{Files}
 use Rattle.cs_io.specs.Outside.{LinkTold, Beside}
 use Rattle.cs_io.specs.declared.until.Until.{Until}
 use Rattle.cs_config.specs.declared.call.CallFile.{CallFile}
-use Rattle.cs_tx_types.specs.declared.session.Session.{Session}
 use Rattle.cs_serve.specs.declared.ending.End.{End}
 use Rattle.cs_serve.specs.declared.ending.End.TheVariants as end
 use Rattle.cs_serve.specs.declared.client_ending.Ending.{Ending}
@@ -21,7 +20,7 @@ use Rattle.cs_deploy.proofs.Answered.{answers-other}
 use Rattle.cs_deploy.proofs.DecidedKeys.{untaken-decided, untaken-other}
 use Rattle.cs_deploy.specs.Binding.{Runs, link_answer}
 use Rattle.cs_deploy.specs.Node.{TellsEnd, NodeGoes, NodeRuns}
-use Rattle.cs_deploy.specs.Client.{known_status, known_answer, refused_answer, TellsEnding, ClientGoes, ClientGoesWith, ClientRuns, IsToldOf}
+use Rattle.cs_deploy.specs.Client.{known_status, known_answer, refused_answer, TellsEnding, ClientGoes, ClientRuns, IsToldOf}
 
 -- ---- files first
 
@@ -77,8 +76,8 @@ known-other known.Open n zero ten = ten
 known-other (known.Accepted digest) n zero ten = zero
 known-other (known.Aborted digest) n zero ten = zero
 
-module _ (setup : Setup) (call : CallFile) (session : Option Session) (hosts : Option Hosts) (until : Until) (Failed : Type 0) (old new : Beside LinkTold) (status : ℕ) where
-  pub client-done : ClientGoesWith setup call session hosts until Failed old new status → (Failed → ⊥) → status ≢ 6 → status ≢ 8 → IsToldOf status
+module _ (setup : Setup) (call : CallFile) (hosts : Option Hosts) (until : Until) (Failed : Type 0) (old new : Beside LinkTold) (status : ℕ) where
+  client-done : ClientGoes setup call hosts until Failed old new status → (Failed → ⊥) → status ≢ 6 → status ≢ 8 → IsToldOf status
   client-done (inl is) links writes other = absurd (other is.silent.0)
   client-done (inr (inl is)) links writes other = absurd (links is.failed)
   client-done (inr (inr is)) links writes other = by is.ending is.failed is.told
@@ -89,7 +88,7 @@ module _ (setup : Setup) (call : CallFile) (session : Option Session) (hosts : O
       by ending.LinkFault failed tells = absurd (links (failed refl))
       by ending.Memory failed tells = absurd (other tells.0)
 
-  pub client-other : (n : ℕ) → ClientGoesWith setup call session hosts until Failed old new status → 0 ≢ n → 10 ≢ n → 3 ≢ n → 7 ≢ n → 6 ≢ n → 8 ≢ n → status ≢ n
+  client-other : (n : ℕ) → ClientGoes setup call hosts until Failed old new status → 0 ≢ n → 10 ≢ n → 3 ≢ n → 7 ≢ n → 6 ≢ n → 8 ≢ n → status ≢ n
   client-other n (inl is) zero ten three seven six eight = λ p. eight (sym is.silent.0 ∙ p)
   client-other n (inr (inl is)) zero ten three seven six eight = answers-other link_answer old.written new.written status n is.told seven six eight
   client-other n (inr (inr is)) zero ten three seven six eight = by is.ending is.told
@@ -117,9 +116,9 @@ module _ (site keys call : List ℕ) (hosts : Option (List ℕ)) (until : Until)
   pub client-runs-decided : ClientRuns site keys call hosts until Failed Linked files old new status → (Failed → ⊥) → (Linked → ⊥) → status ≢ 6 → IsDecided (ClientFilesCome site keys call hosts) IsToldOf files status
   client-runs-decided runs stores links writes =
       runs-decided (ClientFilesCome site keys call hosts) (λ taken. ClientGoes taken.0.0 taken.0.1 taken.1 until Linked) Failed files old new status IsToldOf runs stores writes
-      (λ taken goes other. client-done taken.0.0 taken.0.1 None taken.1 until Linked old new status goes links writes other)
+      (λ taken goes other. client-done taken.0.0 taken.0.1 taken.1 until Linked old new status goes links writes other)
 
   pub client-runs-other : (n : ℕ) → ClientRuns site keys call hosts until Failed Linked files old new status → 0 ≢ n → 10 ≢ n → 3 ≢ n → 7 ≢ n → 12 ≢ n → 6 ≢ n → 8 ≢ n → status ≢ n
   client-runs-other n runs zero ten three seven twelve six eight =
       runs-other (ClientFilesCome site keys call hosts) (λ taken. ClientGoes taken.0.0 taken.0.1 taken.1 until Linked) Failed files old new status n runs twelve six eight
-      (λ taken goes. client-other taken.0.0 taken.0.1 None taken.1 until Linked old new status n goes zero ten three seven six eight)
+      (λ taken goes. client-other taken.0.0 taken.0.1 taken.1 until Linked old new status n goes zero ten three seven six eight)

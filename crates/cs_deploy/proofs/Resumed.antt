@@ -19,9 +19,10 @@ use Rattle.cs_deploy.specs.declared.setups.Setup.{Setup}
 use Rattle.cs_deploy.specs.Hosts.{ClientFilesCome}
 use Rattle.cs_deploy.specs.Untaken.{IsDecided}
 use Rattle.cs_deploy.specs.Client.{IsToldOf}
-use Rattle.cs_deploy.specs.Session.{is_of_call, no_session_answer, Resumes, SessionGoes, SessionRuns}
+use Rattle.cs_deploy.specs.Session.{is_of_call, no_session_answer, wishes_of, Resumes, SessionGoes, SessionRuns}
 use Rattle.cs_deploy.proofs.Answered.{answers-other}
-use Rattle.cs_deploy.proofs.Decided.{client-done, client-other, runs-decided, runs-other}
+use Rattle.cs_deploy.proofs.Decided.{runs-decided, runs-other}
+use Rattle.cs_deploy.proofs.Tried.{tries-done, tries-other}
 
 -- ---- the session that bytes encode, or that they encode none
 
@@ -50,30 +51,30 @@ formed-of config number x is = none-from (fault_of config x) (and-right (x.numbe
 
 -- ---- what decides, and which statuses there are
 
-module _ (setup : Setup) (call : CallFile) (hosts : Option Hosts) (until : Until) (Failed : Type 0) (old new : Beside LinkTold) (status : ℕ) where
-  resumes-done : (session : Option Session) → Resumes setup call hosts until Failed session old new status → (Failed → ⊥) → status ≢ 6 → status ≢ 8 → IsToldOf status
+module _ (setup : Setup) (call : CallFile) (hosts : Option Hosts) (details : Bool) (until : Until) (Failed : Type 0) (old new : Beside LinkTold) (status : ℕ) where
+  resumes-done : (session : Option Session) → Resumes setup call hosts details until Failed session old new status → (Failed → ⊥) → status ≢ 6 → status ≢ 8 → IsToldOf status
   resumes-done None goes links writes other = inr (inr (goes.1.verdict writes other).0)
-  resumes-done (Some x) goes links writes other = client-done setup call (Some x) hosts until Failed old new status goes links writes other
+  resumes-done (Some x) goes links writes other = tries-done setup call (Some x) hosts (wishes_of details) until Failed old new status None goes links writes other
 
-  resumes-other : (session : Option Session) (n : ℕ) → Resumes setup call hosts until Failed session old new status → 0 ≢ n → 10 ≢ n → 3 ≢ n → 7 ≢ n → 6 ≢ n → 8 ≢ n → status ≢ n
+  resumes-other : (session : Option Session) (n : ℕ) → Resumes setup call hosts details until Failed session old new status → 0 ≢ n → 10 ≢ n → 3 ≢ n → 7 ≢ n → 6 ≢ n → 8 ≢ n → status ≢ n
   resumes-other None n goes zero ten three seven six eight = answers-other no_session_answer old.written new.written status n goes.1 three six eight
-  resumes-other (Some x) n goes zero ten three seven six eight = client-other setup call (Some x) hosts until Failed old new status n goes zero ten three seven six eight
+  resumes-other (Some x) n goes zero ten three seven six eight = tries-other setup call (Some x) hosts (wishes_of details) until Failed old new status None n goes zero ten three seven six eight
 
-  session-done : (word : List ℕ) → SessionGoes setup call hosts word until Failed old new status → (Failed → ⊥) → status ≢ 6 → status ≢ 8 → IsToldOf status
+  session-done : (word : List ℕ) → SessionGoes setup call hosts word details until Failed old new status → (Failed → ⊥) → status ≢ 6 → status ≢ 8 → IsToldOf status
   session-done word (inl is) links writes other = absurd (other is.silent.0)
   session-done word (inr goes) links writes other = resumes-done _ goes links writes other
 
-  session-other : (word : List ℕ) (n : ℕ) → SessionGoes setup call hosts word until Failed old new status → 0 ≢ n → 10 ≢ n → 3 ≢ n → 7 ≢ n → 6 ≢ n → 8 ≢ n → status ≢ n
+  session-other : (word : List ℕ) (n : ℕ) → SessionGoes setup call hosts word details until Failed old new status → 0 ≢ n → 10 ≢ n → 3 ≢ n → 7 ≢ n → 6 ≢ n → 8 ≢ n → status ≢ n
   session-other word n (inl is) zero ten three seven six eight = λ p. eight (sym is.silent.0 ∙ p)
   session-other word n (inr goes) zero ten three seven six eight = resumes-other _ n goes zero ten three seven six eight
 
-module _ (site keys call : List ℕ) (hosts : Option (List ℕ)) (word : List ℕ) (until : Until) (Failed Linked : Type 0) (files : Option Files) (old new : Beside LinkTold) (status : ℕ) where
-  pub session-runs-decided : SessionRuns site keys call hosts word until Failed Linked files old new status → (Failed → ⊥) → (Linked → ⊥) → status ≢ 6 → IsDecided (ClientFilesCome site keys call hosts) IsToldOf files status
+module _ (site keys call : List ℕ) (hosts : Option (List ℕ)) (word : List ℕ) (details : Bool) (until : Until) (Failed Linked : Type 0) (files : Option Files) (old new : Beside LinkTold) (status : ℕ) where
+  pub session-runs-decided : SessionRuns site keys call hosts word details until Failed Linked files old new status → (Failed → ⊥) → (Linked → ⊥) → status ≢ 6 → IsDecided (ClientFilesCome site keys call hosts) IsToldOf files status
   session-runs-decided runs stores links writes =
-      runs-decided (ClientFilesCome site keys call hosts) (λ taken. SessionGoes taken.0.0 taken.0.1 taken.1 word until Linked) Failed files old new status IsToldOf runs stores writes
-      (λ taken goes other. session-done taken.0.0 taken.0.1 taken.1 until Linked old new status word goes links writes other)
+      runs-decided (ClientFilesCome site keys call hosts) (λ taken. SessionGoes taken.0.0 taken.0.1 taken.1 word details until Linked) Failed files old new status IsToldOf runs stores writes
+      (λ taken goes other. session-done taken.0.0 taken.0.1 taken.1 details until Linked old new status word goes links writes other)
 
-  pub session-runs-other : (n : ℕ) → SessionRuns site keys call hosts word until Failed Linked files old new status → 0 ≢ n → 10 ≢ n → 3 ≢ n → 7 ≢ n → 12 ≢ n → 6 ≢ n → 8 ≢ n → status ≢ n
+  pub session-runs-other : (n : ℕ) → SessionRuns site keys call hosts word details until Failed Linked files old new status → 0 ≢ n → 10 ≢ n → 3 ≢ n → 7 ≢ n → 12 ≢ n → 6 ≢ n → 8 ≢ n → status ≢ n
   session-runs-other n runs zero ten three seven twelve six eight =
-      runs-other (ClientFilesCome site keys call hosts) (λ taken. SessionGoes taken.0.0 taken.0.1 taken.1 word until Linked) Failed files old new status n runs twelve six eight
-      (λ taken goes. session-other taken.0.0 taken.0.1 taken.1 until Linked old new status word n goes zero ten three seven six eight)
+      runs-other (ClientFilesCome site keys call hosts) (λ taken. SessionGoes taken.0.0 taken.0.1 taken.1 word details until Linked) Failed files old new status n runs twelve six eight
+      (λ taken goes. session-other taken.0.0 taken.0.1 taken.1 details until Linked old new status word n goes zero ten three seven six eight)

@@ -55,9 +55,10 @@ TellsEnding Memory written written' status = IsSilent written written' status
 
 -- ---- the command
 
--- what a client of this setup is to do that makes this call, or submits the session of it that was made before
-abbrev pub errand_of : Setup → CallFile → Option Session → Errand
-errand_of setup call session = errand_with setup.site setup.keys setup.book call session
+-- what a client of this setup is to do that makes this call, or submits the session of it that was made before; it asks
+-- for dummies from this serial on, or for any
+abbrev pub errand_of : Setup → CallFile → Option Session → Option ℕ → Errand
+errand_of setup call session dummy = errand_with setup.site setup.keys setup.book call session dummy
 
 -- The link is told where all are and bound as the client of these keys, and the client is run until it knows what has
 -- become of its session.
@@ -71,16 +72,12 @@ pub record IsAttended (errand : Errand) (base_port : ℕ) (hosts : Option Hosts)
   pub told : TellsEnding ending old.written new.written status
 
 -- what becomes of a client whose files are taken
-abbrev pub ClientGoesWith : Setup → CallFile → Option Session → Option Hosts → Until → Type 0 → Beside LinkTold
-    → Beside LinkTold → ℕ → Type 0
-ClientGoesWith setup call session hosts until LinkFailed old new status =
-    IsShort old new status
-    ⊎ (IsUnbound setup.keys.me setup.site.base_port hosts LinkFailed old new status
-    ⊎ IsAttended (errand_of setup call session) setup.site.base_port hosts until LinkFailed old new status)
-
 abbrev pub ClientGoes : Setup → CallFile → Option Hosts → Until → Type 0 → Beside LinkTold → Beside LinkTold → ℕ
     → Type 0
-ClientGoes setup call hosts = ClientGoesWith setup call None hosts
+ClientGoes setup call hosts until LinkFailed old new status =
+    IsShort old new status
+    ⊎ (IsUnbound setup.keys.me setup.site.base_port hosts LinkFailed old new status
+    ⊎ IsAttended (errand_of setup call None None) setup.site.base_port hosts until LinkFailed old new status)
 
 -- what the command comes to
 abbrev pub ClientRuns : List ℕ → List ℕ → List ℕ → Option (List ℕ) → Until → Type 0 → Type 0 → Option Files

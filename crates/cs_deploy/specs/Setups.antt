@@ -9,9 +9,11 @@ use Rattle.cs_deploy.specs.declared.keys.Role.{Role}
 use Rattle.cs_deploy.specs.declared.setups.Setup.{Setup}
 use Rattle.cs_deploy.specs.Files.{is_right}
 
--- keys of one in this role, which are of version 1, and objects that have encodings, each under a key of its own
+-- keys of one in this role and a site, which are of version 1, and objects that have encodings, each under a key of its
+-- own
 pub record IsSoundSetup (role : Role) (setup : Setup) : Type 0 where
   pub first : setup.keys.version ≡ One
+  pub version : setup.site.config.version ≡ 1
   pub right : is_right role setup.site.config setup.keys.me ≡ true
   pub objects : All ObjectFits setup.site.genesis
   pub few_objects : length setup.site.genesis ≤ MOST_GENESIS

@@ -1,14 +1,12 @@
 //! The command `client`.
-ghost use Rattle.std.specs.Prelude.{◌≡◌, ◌≢◌, IfSome, option_copied};
+ghost use Rattle.std.specs.Prelude.{◌≡◌, ◌≢◌, option_copied};
 ghost use Rattle.cs_base.specs.Outside.{HasCause};
 ghost use Rattle.cs_base.specs.Answers.{Answers};
 ghost use Rattle.cs_io.specs.Told.{Stays};
 ghost use Rattle.cs_io.specs.Outside.{Faultless, Faulty, beside};
-ghost use Rattle.cs_tx_types.specs.Session.{SessionFits};
-ghost use Rattle.cs_tx.specs.WellFormed.{IsWellFormed};
 ghost use Rattle.cs_deploy.specs.Hosts.{ClientFilesCome};
 ghost use Rattle.cs_deploy.specs.Untaken.{IsDecided};
-ghost use Rattle.cs_deploy.specs.Client.{ClientGoesWith, ClientRuns, IsToldOf, TellsEnding, known_answer, known_status, refused_answer};
+ghost use Rattle.cs_deploy.specs.Client.{ClientGoes, ClientRuns, IsToldOf, TellsEnding, known_answer, known_status, refused_answer};
 
 use crate::binding::bind_or_tell;
 use crate::hosts::take_client_files;
@@ -20,7 +18,6 @@ use cs_config::{CallFile, Hosts};
 use cs_io::{Link, Store, Until};
 use cs_proc::ProcError;
 use cs_serve::{Ending, attend};
-use cs_tx_types::Session;
 use std::alloc::Global;
 
 /// Runs the client of a site file, a key file and a call file for so long at most, where a hosts
@@ -56,28 +53,23 @@ pub fn run_client<E: Store, L: Link, K: Sink>(
     match take_client_files(alloc, store, site_name, keys_name, call_name, hosts_name) {
         Ok((both, hosts)) => {
             let (setup, call) = both;
-            run_call(alloc, setup, call, None, hosts, until, link, out)
+            run_call(alloc, setup, call, hosts, until, link, out)
         }
         Err(why) => refuse(alloc, why, out),
     }
 }
 
-/// Runs the client of a setup, which makes this call, or submits the session of it that was made
-/// before, with a link that is told where all are.
-pub(crate) fn run_call<L: Link, K: Sink>(
+// Runs the client of a setup, which makes this call, with a link that is told where all are.
+fn run_call<L: Link, K: Sink>(
     alloc: Global,
     setup: Setup,
     call: CallFile,
-    session: Option<Session>,
     hosts: Option<Hosts>,
     until: Until,
     link: &mut L,
     out: &mut K,
 ) -> u8
-    requires fits { IfSome session SessionFits }
-    requires formed { IfSome session (IsWellFormed setup.site.config) }
-    ensures goes { ClientGoesWith setup call session hosts until
-        (Faulty L.faults link.old link.new)
+    ensures goes { ClientGoes setup call hosts until (Faulty L.faults link.old link.new)
         (beside (L.told link.old) (K.written out.old))
         (beside (L.told link.new) (K.written out.new)) result }
     ensures write_fault { HasCause (K.faults out.old) (K.faults out.new) (result ≡ 6) }
@@ -85,7 +77,7 @@ pub(crate) fn run_call<L: Link, K: Sink>(
     let me = setup.keys.me();
     let base_port = setup.site.base_port;
     let Setup { site, book, keys } = setup;
-    let Ok(client) = ClientCore::start(alloc, site, keys, book, call, session) else {
+    let Ok(client) = ClientCore::start(alloc, site, keys, book, call, None, None) else {
         return 8;
     };
     match bind_or_tell(link, &hosts, me, base_port, out) {

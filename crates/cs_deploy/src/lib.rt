@@ -26,6 +26,7 @@ mod sites;
 mod starting;
 mod telling;
 mod tries;
+mod wishes;
 
 pub use calls::take_client;
 pub use cause::{Cause, Untaken, refusal_line};
@@ -42,3 +43,4 @@ pub use shows::run_show;
 pub use sites::{take_cluster, take_site};
 pub use telling::{refuse, tell};
 pub use tries::run_client_tries;
+pub use wishes::Wishes;

@@ -10,10 +10,11 @@ ghost use Rattle.cs_tx.specs.WellFormed.{IsWellFormed, fault_of};
 ghost use Rattle.cs_deploy.specs.Hosts.{ClientFilesCome};
 ghost use Rattle.cs_deploy.specs.Untaken.{IsDecided};
 ghost use Rattle.cs_deploy.specs.Client.{IsToldOf};
-ghost use Rattle.cs_deploy.specs.Session.{is_of_call, where_of_call, session_of_hex, session_of_word, Resumes, SessionGoes, SessionRuns};
+ghost use Rattle.cs_deploy.specs.Session.{is_of_call, where_of_call, session_of_hex, session_of_word, wishes_of, Resumes, SessionGoes, SessionRuns};
 
-use crate::clients::run_call;
 use crate::hosts::take_client_files;
+use crate::tries::try_call;
+use crate::wishes::Wishes;
 use crate::{Setup, refuse, tell};
 use cs_base::{Config, Memory, Sink, read_bytes};
 use cs_config::{CallFile, Hosts};
@@ -115,8 +116,8 @@ fn read_session(
 
 /// Runs the client of a site file, a key file and a call file for so long at most, where a hosts
 /// file says if one is named. It submits the session of the call that the word says, by its
-/// encoding in hex, and asks for no object and no dummy. It answers the status of a client; 3 where
-/// the word says no session of the call.
+/// encoding in hex, and asks for no object and no dummy; with details it prints what it has made. It
+/// answers the status of a client; 3 where the word says no session of the call.
 pub fn run_client_session<E: Store, L: Link, K: Sink>(
     alloc: Global,
     site_name: &str,
@@ -124,13 +125,14 @@ pub fn run_client_session<E: Store, L: Link, K: Sink>(
     call_name: &str,
     hosts_name: Option<&str>,
     word: &str,
+    details: bool,
     until: Until,
     store: &mut E,
     link: &mut L,
     out: &mut K,
 ) -> u8
     ensures runs { SessionRuns site_name.now keys_name.now call_name.now
-        (option_copied hosts_name.entry) word.now until
+        (option_copied hosts_name.entry) word.now details until
         (Faulty E.faults store.old store.new) (Faulty L.faults link.old link.new)
         (E.files store.old) (beside (L.told link.old) (K.written out.old))
         (beside (L.told link.new) (K.written out.new)) result }
@@ -147,9 +149,20 @@ pub fn run_client_session<E: Store, L: Link, K: Sink>(
     match take_client_files(alloc, store, site_name, keys_name, call_name, hosts_name) {
         Ok((both, hosts)) => {
             let (setup, call) = both;
-            resume(alloc, setup, call, hosts, word, until, link, out)
+            resume(alloc, setup, call, hosts, word, details, until, link, out)
         }
         Err(why) => refuse(alloc, why, out),
+    }
+}
+
+// What is asked of a client that submits a session.
+fn wishes_of(details: bool) -> Wishes
+    ensures { result ≡ wishes_of details }
+{
+    Wishes {
+        details,
+        tries: 1,
+        dummy: None,
     }
 }
 
@@ -160,17 +173,21 @@ fn resume<L: Link, K: Sink>(
     call: CallFile,
     hosts: Option<Hosts>,
     word: &str,
+    details: bool,
     until: Until,
     link: &mut L,
     out: &mut K,
 ) -> u8
-    ensures goes { SessionGoes setup call hosts word.now until (Faulty L.faults link.old link.new)
+    ensures goes { SessionGoes setup call hosts word.now details until
+        (Faulty L.faults link.old link.new)
         (beside (L.told link.old) (K.written out.old))
         (beside (L.told link.new) (K.written out.new)) result }
     ensures write_fault { HasCause (K.faults out.old) (K.faults out.new) (result ≡ 6) }
 {
     match read_session(alloc, &setup.site.config, call.number, word) {
-        Ok(session) => resubmit(alloc, setup, call, session, hosts, until, link, out),
+        Ok(session) => resubmit(
+            alloc, setup, call, session, hosts, details, until, link, out,
+        ),
         Err(_) => 8,
     }
 }
@@ -182,19 +199,25 @@ fn resubmit<L: Link, K: Sink>(
     call: CallFile,
     session: Option<Session>,
     hosts: Option<Hosts>,
+    details: bool,
     until: Until,
     link: &mut L,
     out: &mut K,
 ) -> u8
     requires fits { IfSome session SessionFits }
     requires formed { IfSome session (IsWellFormed setup.site.config) }
-    ensures goes { Resumes setup call hosts until (Faulty L.faults link.old link.new) session
+    ensures goes { Resumes setup call hosts details until
+        (Faulty L.faults link.old link.new) session
         (beside (L.told link.old) (K.written out.old))
         (beside (L.told link.new) (K.written out.new)) result }
     ensures write_fault { HasCause (K.faults out.old) (K.faults out.new) (result ≡ 6) }
 {
     match session {
-        Some(session) => run_call(alloc, setup, call, Some(session), hosts, until, link, out),
+        Some(session) => {
+            let session = Some(session);
+            let wishes = wishes_of(details);
+            try_call(alloc, setup, call, session, hosts, wishes, until, link, out)
+        }
         None => tell(out, b"refused call session\n", 3),
     }
 }

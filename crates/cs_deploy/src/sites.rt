@@ -1,5 +1,5 @@
 //! Taking a site file, and a plan with the site that it names.
-ghost use Rattle.std.specs.Prelude.{◌≤◌, IfOk, IsErrAnd, length};
+ghost use Rattle.std.specs.Prelude.{◌≡◌, ◌≤◌, IfOk, IsErrAnd, length};
 ghost use Rattle.std.specs.List.{All};
 ghost use Rattle.cs_base.specs.Outside.{HasCause};
 ghost use Rattle.cs_base.specs.declared.limits.TheConstants.{MOST_GENESIS};
@@ -14,10 +14,11 @@ use cs_config::{Plan, Site, read_plan, read_site};
 use cs_io::Store;
 use std::alloc::Global;
 
-/// The site of the file of this name. Whether its contracts and its genesis serve is asked by who
-/// takes a setup.
+/// The site of the file of this name, which is of version 1. Whether its contracts and its genesis
+/// serve is asked by who takes a setup.
 pub fn take_site<E: Store>(alloc: Global, store: &mut E, name: &str) -> Result<Site, Untaken>
     ensures taken { TakesFiles (FilesCome (site_taken name.now)) (E.files store.old) result }
+    ensures version { IfOk result (λ site. site.config.version ≡ 1) }
     ensures objects { IfOk result (λ site. All ObjectFits site.genesis) }
     ensures few_objects { IfOk result (λ site. length site.genesis ≤ MOST_GENESIS) }
     ensures kept { Stays (E.files store.old) (E.files store.new) }

@@ -1,41 +1,48 @@
-//! The command `client` whose call is made again after it was aborted.
-ghost use Rattle.std.specs.Prelude.{◌≡◌, ◌≢◌, ◌⊎◌, ◌≤◌, option_copied};
+//! The command `client` whose call is made again after it was aborted, or that tells details.
+ghost use Rattle.std.specs.Prelude.{◌≡◌, ◌≢◌, ◌⊎◌, ◌≤◌, IfSome, None, option_copied};
 ghost use Rattle.cs_base.specs.Outside.{HasCause};
 ghost use Rattle.cs_io.specs.Told.{Stays};
 ghost use Rattle.cs_io.specs.Outside.{Faultless, Faulty, beside};
+ghost use Rattle.cs_tx_types.specs.Session.{SessionFits};
+ghost use Rattle.cs_tx.specs.WellFormed.{IsWellFormed};
 ghost use Rattle.cs_deploy.specs.Hosts.{ClientFilesCome};
 ghost use Rattle.cs_deploy.specs.Untaken.{IsDecided};
 ghost use Rattle.cs_deploy.specs.Client.{IsToldOf};
-ghost use Rattle.cs_deploy.specs.Tries.{TriesGo, TriesRun, TellsTryEnding};
+ghost use Rattle.cs_deploy.specs.Tries.{judged, TriesGo, TriesGoBy, TriesRun, TellsTryEnding};
 
 use crate::binding::bind_or_tell;
 use crate::clients::tell_ending;
 use crate::hosts::take_client_files;
-use crate::{Setup, refuse};
+use crate::wishes::Wishes;
+use crate::{Setup, refuse, tell};
 use cs_base::Sink;
 use cs_client::ClientCore;
 use cs_config::{CallFile, Hosts};
 use cs_io::{Link, Store, Until};
+use cs_judge::{CallFault, fault_line, fault_of_call};
 use cs_tries::{TryEnding, attend_tries};
+use cs_tx_types::Session;
 use std::alloc::Global;
 
 /// Runs the client of a site file, a key file and a call file for so long at most, where a hosts
 /// file says if one is named, and makes its call again after it was aborted, under the next number,
-/// so many tries at most. It answers the status of the last one.
+/// as often as it is asked for. With details it first tells what is wrong with the call by its file alone;
+/// it prints each session before it is submitted, and of one that is accepted the transaction. It
+/// answers the status of the last try.
 pub fn run_client_tries<E: Store, L: Link, K: Sink>(
     alloc: Global,
     site_name: &str,
     keys_name: &str,
     call_name: &str,
     hosts_name: Option<&str>,
-    tries: u64,
+    wishes: Wishes,
     until: Until,
     store: &mut E,
     link: &mut L,
     out: &mut K,
 ) -> u8
     ensures runs { TriesRun site_name.now keys_name.now call_name.now
-        (option_copied hosts_name.entry) tries until
+        (option_copied hosts_name.entry) wishes until
         (Faulty E.faults store.old store.new) (Faulty L.faults link.old link.new)
         (E.files store.old) (beside (L.told link.old) (K.written out.old))
         (beside (L.told link.new) (K.written out.new)) result }
@@ -52,25 +59,62 @@ pub fn run_client_tries<E: Store, L: Link, K: Sink>(
     match take_client_files(alloc, store, site_name, keys_name, call_name, hosts_name) {
         Ok((both, hosts)) => {
             let (setup, call) = both;
-            try_call(alloc, setup, call, hosts, tries, until, link, out)
+            judge_call(alloc, setup, call, hosts, wishes, until, link, out)
         }
         Err(why) => refuse(alloc, why, out),
     }
 }
 
-// Runs the client of a setup, which makes this call so often at most, with a link that is told
-// where all are.
-fn try_call<L: Link, K: Sink>(
+// The first fault of a call, by its file and the contracts alone, where it is looked for.
+fn judged(details: bool, setup: &Setup, call: &CallFile) -> Option<CallFault>
+    ensures { result ≡ judged details setup.now call.now }
+{
+    if details {
+        fault_of_call(&setup.book, call)
+    } else {
+        None
+    }
+}
+
+// Tells the fault of a call, or runs the client of a setup that makes it.
+fn judge_call<L: Link, K: Sink>(
     alloc: Global,
     setup: Setup,
     call: CallFile,
     hosts: Option<Hosts>,
-    tries: u64,
+    wishes: Wishes,
     until: Until,
     link: &mut L,
     out: &mut K,
 ) -> u8
-    ensures goes { TriesGo setup call hosts tries until (Faulty L.faults link.old link.new)
+    ensures goes { TriesGo setup call hosts wishes until (Faulty L.faults link.old link.new)
+        (beside (L.told link.old) (K.written out.old))
+        (beside (L.told link.new) (K.written out.new)) result }
+    ensures write_fault { HasCause (K.faults out.old) (K.faults out.new) (result ≡ 6) }
+{
+    match judged(wishes.details, &setup, &call) {
+        Some(fault) => tell(out, fault_line(fault), 3),
+        None => try_call(alloc, setup, call, None, hosts, wishes, until, link, out),
+    }
+}
+
+/// Runs the client of a setup, which makes this call so often at most, or first submits the session
+/// of it that was made before, with a link that is told where all are.
+pub(crate) fn try_call<L: Link, K: Sink>(
+    alloc: Global,
+    setup: Setup,
+    call: CallFile,
+    session: Option<Session>,
+    hosts: Option<Hosts>,
+    wishes: Wishes,
+    until: Until,
+    link: &mut L,
+    out: &mut K,
+) -> u8
+    requires fits { IfSome session SessionFits }
+    requires formed { IfSome session (IsWellFormed setup.site.config) }
+    ensures goes { TriesGoBy None setup call session hosts wishes until
+        (Faulty L.faults link.old link.new)
         (beside (L.told link.old) (K.written out.old))
         (beside (L.told link.new) (K.written out.new)) result }
     ensures write_fault { HasCause (K.faults out.old) (K.faults out.new) (result ≡ 6) }
@@ -78,12 +122,20 @@ fn try_call<L: Link, K: Sink>(
     let me = setup.keys.me();
     let base_port = setup.site.base_port;
     let Setup { site, book, keys } = setup;
-    let Ok(client) = ClientCore::start(alloc, site, keys, book, call, None) else {
+    let Ok(client) = ClientCore::start(alloc, site, keys, book, call, session, wishes.dummy) else {
         return 8;
     };
     match bind_or_tell(link, &hosts, me, base_port, out) {
         Ok(()) => {
-            let ending = attend_tries(alloc, client, tries, link, out, until);
+            let ending = attend_tries(
+                alloc,
+                client,
+                wishes.details,
+                wishes.tries,
+                link,
+                out,
+                until,
+            );
             tell_tries(alloc, ending, out)
         }
         Err(status) => status,
@@ -98,6 +150,7 @@ fn tell_tries<K: Sink>(alloc: Global, ending: TryEnding, out: &mut K) -> u8
 {
     match ending {
         TryEnding::Ended(ending) => tell_ending(alloc, ending, out),
+        TryEnding::Told(_) => 0,
         TryEnding::WriteFault => 6,
     }
 }

@@ -4,7 +4,7 @@ use Rattle.std.specs.Io.KnownBytes.{Appends}
 use Rattle.std.specs.Str.{bytes_eq}
 use Rattle.cs_base.specs.Answers.{Answer}
 use Rattle.cs_help.specs.declared.topic.Topic.{Topic}
-use Rattle.cs_help.specs.declared.topic.Topic.TheVariants.{Commands, Replay, Contract, Try, Verify, Audit, Simulate, Node, Client, Show, Keys, Cluster, Wallet, Help, Version}
+use Rattle.cs_help.specs.declared.topic.Topic.TheVariants.{Commands, Replay, Contract, Try, Verify, Audit, Simulate, Node, Client, Show, Keys, Cluster, Wallet, Transaction, Help, Version}
 use Rattle.cs_help.specs.declared.commands.TheConstants as text
 use Rattle.cs_help.specs.declared.version.TheConstants as program
 
@@ -23,6 +23,7 @@ topic_of word =
     else if bytes_eq word (codes "keys") then Some Keys
     else if bytes_eq word (codes "cluster") then Some Cluster
     else if bytes_eq word (codes "wallet") then Some Wallet
+    else if bytes_eq word (codes "transaction") then Some Transaction
     else if bytes_eq word (codes "help") then Some Help
     else if bytes_eq word (codes "version") then Some Version
     else None
@@ -41,6 +42,7 @@ help_text Show = text.SHOW.now
 help_text Keys = text.KEYS.now
 help_text Cluster = text.CLUSTER.now
 help_text Wallet = text.WALLET.now
+help_text Transaction = text.TRANSACTION.now
 help_text Help = text.HELP.now
 help_text Version = text.VERSION.now
 

@@ -13,6 +13,7 @@ pub const COMMANDS: &str = "usage: chainspace COMMAND ..
   keys SITE MASTER                        saves all key files of a site
   cluster PLAN                            runs a whole ledger, for trials
   wallet new | key | sign FILE ..         keeps one-time keys, and signs
+  transaction [--number N] < TEXT         tells what a transaction is
   help [COMMAND]                          tells of all commands, or of one
   version                                 tells the version and the logic
 ";
@@ -73,16 +74,21 @@ example: chainspace node site.toml keys-0.0.toml --ticks 180000
 ";
 
 pub const CLIENT: &str = "usage: chainspace client SITE KEYS CALL --ticks N [--hosts FILE]
-                         [--tries N | --session HEX]
+                         [--details] [--tries N] [--dummy N] [--session HEX]
 Makes the call of a call file, and prints what has become of its session.
   --ticks N      for N ticks at most, of 20 milliseconds if FILE doesn't say
                  otherwise
   --turns N      for N inputs at most, datagrams or ticks
   --hosts FILE   where all are; without it they are on this machine
+  --details      tells first what is wrong with the call by its file alone,
+                 prints the session before it is submitted, and what it made
+                 once it is accepted; behind all other words, as the next ones
   --tries N      makes the call again where it is aborted, under the next
-                 number, N tries at most (1 to 64); behind all other words
+                 number, N tries at most (1 to 64)
+  --dummy N      asks each shard for its dummies from number N on, and takes
+                 the least that is free
   --session HEX  submits that session of the call, which was made before, by its
-                 encoding; behind all other words
+                 encoding; without --tries and --dummy
 status: 0 accepted or aborted, 10 open, 3 the call is refused,
         7 the socket fails, 12 a file isn't taken
 example: chainspace client site.toml keys-c.0.toml pay.toml --ticks 1500
@@ -126,6 +132,14 @@ sign, and never sign with a copy that doesn't know all that was signed.
 status: 0 done, 3 the number has signed another message,
         12 the file isn't taken or saved, 13 too many numbers have signed
 example: chainspace wallet key wallet.toml 0
+";
+
+pub const TRANSACTION: &str = "usage: chainspace transaction [--number N] < TEXT
+Reads a transaction in words, and prints its encoding and its digest, what is
+to be signed of each trace, and the name of each output.
+  --number N   prints the session of that number too, without dummies
+status: 0 done, 3 the text is refused, 13 too many bytes
+example: chainspace transaction < examples/wallet/pay.toml
 ";
 
 pub const HELP: &str = "usage: chainspace help [COMMAND]

@@ -23,6 +23,7 @@ pub fn help_text(topic: Topic) -> &'static str
         Topic::Keys => commands::KEYS,
         Topic::Cluster => commands::CLUSTER,
         Topic::Wallet => commands::WALLET,
+        Topic::Transaction => commands::TRANSACTION,
         Topic::Help => commands::HELP,
         Topic::Version => commands::VERSION,
     }

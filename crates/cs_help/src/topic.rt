@@ -19,6 +19,7 @@ pub enum Topic {
     Keys,
     Cluster,
     Wallet,
+    Transaction,
     Help,
     Version,
 }
@@ -40,6 +41,7 @@ pub fn topic_of(word: &str) -> Option<Topic>
         "keys" => Some(Topic::Keys),
         "cluster" => Some(Topic::Cluster),
         "wallet" => Some(Topic::Wallet),
+        "transaction" => Some(Topic::Transaction),
         "help" => Some(Topic::Help),
         "version" => Some(Topic::Version),
         _ => None,

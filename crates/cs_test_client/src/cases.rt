@@ -101,6 +101,7 @@ fn call_of(alloc: Global, case: &Case, made: &[i64], reads: &[Digest]) -> Result
         reads: Sequence::new(alloc),
         args: Sequence::new(alloc),
         number: 1,
+        transaction: None,
     };
     if !made.is_empty() {
         call.inputs.push(case.name)?;
@@ -114,7 +115,62 @@ fn call_of(alloc: Global, case: &Case, made: &[i64], reads: &[Digest]) -> Result
     Ok(call)
 }
 
-// A client that makes that call.
+// The transaction that makes these coins of the coin, worth so much, in place of a call.
+fn given_of(
+    rt: &impl Abort,
+    alloc: Global,
+    case: &Case,
+    worth: i64,
+    made: &[i64],
+) -> Result<CallFile, Fail> {
+    let session = spend(alloc, case.name, worth, made, 1)?;
+    assert!(rt; session.fits());
+    assert!(rt; session.tx.fits());
+    let bytes = session.tx.to_bytes(alloc)?;
+    let mut call = call_of(alloc, case, &[], &[])?;
+    call.transaction = Some(Sequence::from_vec(bytes));
+    Ok(call)
+}
+
+fn start_call(
+    rt: &impl Abort,
+    alloc: Global,
+    case: &Case,
+    call: CallFile,
+    dummy: Option<u64>,
+) -> Result<ClientCore, Fail> {
+    let site = site_of(alloc, case);
+    let book = Book::new(alloc, &[]).expect(rt, "a book");
+    let keys = keys_of(alloc, &case.config, CLIENT)?;
+    Ok(ClientCore::start(alloc, site, keys, book, call, None, dummy)?)
+}
+
+// A client that makes that call, and asks for dummies from this serial on.
+pub(crate) fn start_from(
+    rt: &impl Abort,
+    alloc: Global,
+    case: &Case,
+    made: &[i64],
+    reads: &[Digest],
+    dummy: Option<u64>,
+) -> Result<ClientCore, Fail> {
+    let call = call_of(alloc, case, made, reads)?;
+    start_call(rt, alloc, case, call, dummy)
+}
+
+// A client that submits that transaction.
+pub(crate) fn start_given(
+    rt: &impl Abort,
+    alloc: Global,
+    case: &Case,
+    worth: i64,
+    made: &[i64],
+) -> Result<ClientCore, Fail> {
+    let call = given_of(rt, alloc, case, worth, made)?;
+    start_call(rt, alloc, case, call, None)
+}
+
+// The same, which asks for any dummy.
 pub(crate) fn start(
     rt: &impl Abort,
     alloc: Global,
@@ -122,11 +178,7 @@ pub(crate) fn start(
     made: &[i64],
     reads: &[Digest],
 ) -> Result<ClientCore, Fail> {
-    let site = site_of(alloc, case);
-    let call = call_of(alloc, case, made, reads)?;
-    let book = Book::new(alloc, &[]).expect(rt, "a book");
-    let keys = keys_of(alloc, &case.config, CLIENT)?;
-    Ok(ClientCore::start(alloc, site, keys, book, call, None)?)
+    start_from(rt, alloc, case, made, reads, None)
 }
 
 // A client that submits this session.
@@ -141,7 +193,8 @@ pub(crate) fn resume(
     let call = call_of(alloc, case, &[], &[])?;
     let book = Book::new(alloc, &[]).expect(rt, "a book");
     let keys = keys_of(alloc, &case.config, CLIENT)?;
-    Ok(ClientCore::start(alloc, site, keys, book, call, Some(session))?)
+    let session = Some(session);
+    Ok(ClientCore::start(alloc, site, keys, book, call, session, None)?)
 }
 
 fn active(alloc: Global, worth: i64) -> Result<State, Memory> {

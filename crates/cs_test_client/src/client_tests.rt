@@ -1,5 +1,5 @@
 //! A client that splits a coin, told by nodes of one shard and of three.
-use crate::cases::{Case, READ, Word, make_case, sealed, start};
+use crate::cases::{Case, READ, Word, make_case, sealed, start, start_from, start_given};
 use cs_base::{NodeId, Sequence};
 use cs_client::{ClientCore, ClientError, Input, Known, Out, known_line};
 use cs_proc::ProcError;
@@ -212,6 +212,67 @@ fn dummies_of_two_shards(rt: HostRuntime) -> Result<(), Fail> {
         let client = start(&rt, alloc, &three, &[1, 7], &[])?;
         assert_eq!(rt; play(&rt, alloc, &three, client, steps)?, known);
     }
+    Ok(())
+}
+
+// The same case, of one node a shard: dummies are asked for from 4 on.
+const FROM: [(u16, Word, usize); 8] = [
+    (2, Word::Coin(8), 128),
+    (0, Word::Dummy(0, 3), 0),
+    (0, Word::Dummy(0, 6), 0),
+    (0, Word::Dummy(0, 4), 0),
+    (1, Word::Dummy(1, 5), 3),
+    (0, Word::Accepted, 0),
+    (1, Word::Accepted, 0),
+    (2, Word::Accepted, 0),
+];
+
+#[test]
+fn dummies_are_asked_for_from_a_serial_on(rt: HostRuntime) -> Result<(), Fail> {
+    let alloc = rt.alloc();
+    let three = make_case(&rt, alloc, (3, 0), &[1, 7], &[(0, 4), (1, 5)])?;
+    let mut core = start_from(&rt, alloc, &three, &[1, 7], &[], Some(4))?;
+    for (shard, word, said) in FROM {
+        let from = NodeId { shard, index: 0 };
+        let (next, outs) = step(&rt, alloc, &three, core, from, word)?;
+        assert_eq!(rt; outs.len(), said);
+        core = next;
+    }
+    assert_eq!(rt; core.known(), Known::Accepted(three.digest));
+    Ok(())
+}
+
+// A transaction that is given names no object to ask for.
+const GIVEN: [Step; 7] = [
+    (0, 0, Word::Tick, &[(10, 0), (10, 1)]),
+    (2, 0, Word::Coin(9), &[]),
+    (0, 0, Word::Dummy(0, 4), &[]),
+    (1, 0, Word::Dummy(1, 5), &[(1, 0), (1, 1), (1, 2)]),
+    (0, 0, Word::Accepted, &[]),
+    (1, 0, Word::Accepted, &[]),
+    (2, 0, Word::Accepted, &[]),
+];
+
+#[test]
+fn a_given_transaction_is_submitted(rt: HostRuntime) -> Result<(), Fail> {
+    let alloc = rt.alloc();
+    let three = make_case(&rt, alloc, (3, 0), &[1, 7], &[(0, 4), (1, 5)])?;
+    let client = start_given(&rt, alloc, &three, 8, &[1, 7])?;
+    let known = play(&rt, alloc, &three, client, GIVEN.as_slice())?;
+    assert_eq!(rt; known, Known::Accepted(three.digest));
+    Ok(())
+}
+
+#[test]
+fn a_given_transaction_is_not_judged(rt: HostRuntime) -> Result<(), Fail> {
+    let alloc = rt.alloc();
+    let one = make_case(&rt, alloc, (1, 0), &[2, 3], &[])?;
+    let client = start_given(&rt, alloc, &one, 5, &[2, 4])?;
+    let steps = [(0, 0, Word::Tick, [(1, 0)].as_slice())];
+    assert_eq!(rt;
+        play(&rt, alloc, &one, client, steps.as_slice())?,
+        Known::Open
+    );
     Ok(())
 }
 

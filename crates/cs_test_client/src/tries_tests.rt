@@ -1,12 +1,16 @@
-//! A call that is made again, and a session that was made before, over a link in memory.
+//! A call that is made again, a session that was made before, and the details of both, over a link in
+//! memory.
+ghost use Rattle.cs_tx_types.specs.Session.{SessionFits};
+
 use crate::cases::{Case, Word, make_case, resume, sealed, start};
 use cs_base::{MemSink, NodeId, Sequence, print_bytes};
-use cs_client::Known;
+use cs_client::{ClientCore, Known, known_line};
+use cs_details::{session_line, tx_lines};
 use cs_io::{MemInput, MemLink, Until};
 use cs_serve::{Ending, attend};
 use cs_test_samples::spend;
 use cs_tries::{TryEnding, attend_tries};
-use cs_tx::session_digest;
+use cs_tx::{Session, session_digest};
 use cs_tx_value::Encoded;
 use std::alloc::Global;
 use std::process::Abort;
@@ -37,8 +41,26 @@ fn link_of(rt: &impl Abort, alloc: Global, said: &[(&Case, Word)]) -> Result<Mem
     Ok(MemLink::new(alloc, inputs, Vec::new(alloc)))
 }
 
-// How a call ends that is tried so often, of which this is printed before, and how many datagrams
+// How a client ends that makes its call so often, of which this is printed, and how many datagrams
 // were offered.
+fn attended(
+    rt: &impl Abort,
+    alloc: Global,
+    client: ClientCore,
+    said: &[(&Case, Word)],
+    details: bool,
+    tries: u64,
+    printed: &str,
+) -> Result<(TryEnding, usize), Fail> {
+    let mut link = link_of(rt, alloc, said)?;
+    let mut out = MemSink::new(alloc, Vec::new(alloc));
+    let until = Until::Turns(9);
+    let ending = attend_tries(alloc, client, details, tries, &mut link, &mut out, until);
+    assert_eq!(rt; out.bytes(), printed.as_bytes());
+    Ok((ending, link.offered().len()))
+}
+
+// The same of a call that is tried so often.
 fn tried(
     rt: &impl Abort,
     alloc: Global,
@@ -48,12 +70,17 @@ fn tried(
 ) -> Result<(TryEnding, usize), Fail> {
     let one = make_case(rt, alloc, (1, 0), &[2, 3], &[])?;
     let client = start(rt, alloc, &one, &[2, 3], &[])?;
-    let mut link = link_of(rt, alloc, said)?;
-    let mut out = MemSink::new(alloc, Vec::new(alloc));
-    let until = Until::Turns(9);
-    let ending = attend_tries(alloc, client, tries, &mut link, &mut out, until);
-    assert_eq!(rt; out.bytes(), printed.as_bytes());
-    Ok((ending, link.offered().len()))
+    attended(rt, alloc, client, said, false, tries, printed)
+}
+
+// What is printed of a session that is accepted.
+fn accepted_lines(alloc: Global, case: &Case, session: &Session) -> Result<String, Fail>
+    requires { SessionFits session.now }
+{
+    let mut text = known_line(alloc, Known::Accepted(case.digest))?;
+    let lines = tx_lines(alloc, &case.config, &session.tx)?;
+    text.push_str(&lines)?;
+    Ok(text)
 }
 
 #[test]
@@ -94,5 +121,35 @@ fn a_session_is_asked_for_again(rt: HostRuntime) -> Result<(), Fail> {
     let ending = attend(alloc, client, &mut link, Until::Turns(9));
     assert_eq!(rt; ending, Ending::Knows(Known::Accepted(one.digest)));
     assert_eq!(rt; link.offered().len(), 1);
+    Ok(())
+}
+
+#[test]
+fn details_are_told(rt: HostRuntime) -> Result<(), Fail> {
+    let alloc = rt.alloc();
+    let one = make_case(&rt, alloc, (1, 0), &[2, 3], &[])?;
+    let session = spend(alloc, one.name, 5, &[2, 3], 1)?;
+    assert!(rt; session.fits());
+    let said = [(&one, Word::Coin(5)), (&one, Word::Accepted)];
+    let accepted = accepted_lines(alloc, &one, &session)?;
+    let mut text = session_line(alloc, &session)?;
+    text.push_str(&accepted)?;
+    let client = start(&rt, alloc, &one, &[2, 3], &[])?;
+    let (ending, offered) = attended(&rt, alloc, client, said.as_slice(), true, 1, text.as_str())?;
+    assert_eq!(rt; ending, TryEnding::Told(one.digest));
+    assert_eq!(rt; offered, 2);
+    // A session that was made before isn't announced.
+    let client = resume(&rt, alloc, &one, session)?;
+    let (ending, offered) = attended(
+        &rt,
+        alloc,
+        client,
+        said.as_slice(),
+        true,
+        1,
+        accepted.as_str(),
+    )?;
+    assert_eq!(rt; ending, TryEnding::Told(one.digest));
+    assert_eq!(rt; offered, 1);
     Ok(())
 }

@@ -1,40 +1,47 @@
 -- How the run of a client goes on from try to try, and how it ends.
-use Rattle.std.proofs.Common.{◌≡◌, ◌≢◌, ℕ, ◌+◌, ◌-◌, ◌^◌, ◌≤◌, inl, inr, Bool, true, false, List, [], ◌∷◌, ◌++◌, length, Option, Result, Ok, Err, refl, sym, ap, subst, ◌∙◌, arith, append-nil, if◌then◌else◌}
-use Rattle.std.specs.Prelude.{min, count_by}
+use Rattle.std.proofs.Common.{◌≡◌, ◌≢◌, ℕ, ◌+◌, ◌-◌, ◌^◌, ◌≤◌, inl, inr, Bool, true, false, List, [], ◌∷◌, ◌++◌, length, Option, Some, Result, Ok, Err, refl, sym, ap, subst, ◌∙◌, arith, append-nil, if◌then◌else◌}
+use Rattle.std.specs.Prelude.{min, count_by, is_none, ◌&&◌}
 use Rattle.std.specs.Int.{from_bool}
 use Rattle.std.specs.Io.KnownBytes.{Appends}
-use Rattle.std.proofs.KnownBytes.{Appends-nil}
+use Rattle.std.specs.Option.{option_map_or}
+use Rattle.std.proofs.KnownBytes.{Appends-nil, Appends-trans}
 use Rattle.cs_base.specs.Answers.{AppendsFront}
+use Rattle.cs_base.specs.Outside.{HasCause}
+use Rattle.cs_base.specs.declared.printing.WriteError.{WriteError}
+use Rattle.cs_base.specs.declared.printing.WriteError.TheVariants as write
+use Rattle.cs_tx_types.specs.declared.session.Session.{Session}
 use Rattle.cs_io.specs.Told.{Changes, Stays}
 use Rattle.cs_io.specs.Link.{Offers}
 use Rattle.cs_io.specs.Outside.{LinkTold, Beside, beside}
 use Rattle.cs_io.specs.Until.{IsOver, AreNeeded}
 use Rattle.cs_io.specs.declared.until.Until.{Until}
-use Rattle.cs_io.specs.laws.Told.{stays-same}
+use Rattle.cs_io.specs.laws.Told.{stays-same, stays-both}
 use Rattle.cs_proc.specs.declared.error.ProcError.{ProcError}
 use Rattle.cs_wire.specs.declared.input.Out.{Out}
 use Rattle.cs_client.specs.declared.known.Known.{Known}
 use Rattle.cs_client.specs.declared.known.Known.TheVariants as known
 use Rattle.cs_client.specs.declared.errand.Errand.{Errand}
 use Rattle.cs_client.specs.Inputs.{ClientInput}
+use Rattle.cs_client.specs.Phases.{Phase, Asking, Wanting, Submitting, Idle, submitted}
 use Rattle.cs_client.specs.Knowing.{knows}
 use Rattle.cs_client.specs.Lines.{known_line}
 use Rattle.cs_client.specs.Sayings.{says_at, outs_of_sayings}
 use Rattle.cs_client.specs.Seen.{Client}
 use Rattle.cs_client.specs.Standing.{errand_again, ClientStandsFor, MethodIsRefused}
-use Rattle.cs_tries.specs.Tries.{Try, try_begun, may_follow, has_next, with_input, known_in_try, then_next, moved_on, try_after, line_between, line_at, lines_in}
+use Rattle.cs_details.specs.Lines.{session_line, tx_lines}
+use Rattle.cs_tries.specs.Tries.{Try, try_begun, may_follow, has_next, with_input, known_in_try, then_next, moved_on, try_after, announcement, newly, line_before, lines_accepted, line_between, line_behind, lines_in, phase_in_try}
 use Rattle.cs_serve.specs.declared.receiving.TheConstants.{MOST_MISSED}
 use Rattle.cs_serve.specs.declared.client_ending.Ending.{Ending}
 use Rattle.cs_serve.specs.declared.client_ending.Ending.TheVariants.{Knows, Refused, LinkFault, Memory}
 use Rattle.cs_tries.specs.declared.ending.TryEnding.{TryEnding}
-use Rattle.cs_tries.specs.declared.ending.TryEnding.TheVariants.{Ended, WriteFault}
+use Rattle.cs_tries.specs.declared.ending.TryEnding.TheVariants.{Ended, Told, WriteFault}
 use Rattle.cs_serve.specs.Offering.{offers_in, AddsOffers, AddsFront}
-use Rattle.cs_serve.specs.Giving.{Gives, GivesFront}
+use Rattle.cs_serve.specs.Giving.{Gives}
 use Rattle.cs_serve.specs.Attending.{is_tick, ClientTakes, offers_at, missed_past, HasNone, HasFailed}
-use Rattle.cs_tries.specs.Trying.{offers_in_tries, GivesTries, WasOpenInTries, TriesEnd, AttendsTries, Going, GoesOnAs, GoesBehind, PrintsBehind, GivenBy, TryGoesBy, TryAnswers, TryTakesTurn}
+use Rattle.cs_tries.specs.Trying.{offers_in_tries, GivesTries, WasOpenInTries, TriesEnd, AttendsTries, Going, GoesOnAs, GoesBehind, PrintsBehind, GivenBy, TryGoesBy, TryAnswers, TryTakesTurn, TriesCut, GivesPart, unwritten}
 use Rattle.cs_serve.specs.laws.Offering.{adds-none, adds-still, adds-later, front-all, front-later}
 use Rattle.cs_serve.specs.laws.Taken.{ticks-more, over-by, still-by}
-use Rattle.cs_serve.proofs.Giving.{AppendsFront-all, AppendsFront-none, Gives-nil, Gives-more, GivesFront-after, GivesFront-all}
+use Rattle.cs_serve.proofs.Giving.{AppendsFront-none, Gives-nil, Gives-more}
 use Rattle.cs_serve.proofs.Told.{takes-none, takes-still, takes-more, takes-one}
 
 -- ---- behind what is known of a try
@@ -49,7 +56,10 @@ follows-not t client tries number may is same left =
 
 module _ (t : Try) where
   abbrev next : Try
-  next = try_begun (errand_again t.errand) (t.tries - 1)
+  next = try_begun t.details (errand_again t.errand) (t.tries - 1)
+
+  abbrev told-text : List ℕ → List ℕ
+  told-text digest = known_line (known.Accepted digest) ++ option_map_or (λ (x : Session). tx_lines t.errand.config x.tx) (submitted (phase_in_try t)) []
 
   pub open-goes : (client : Client) (tries : ℕ) → known_in_try t ≡ known.Open → ClientStandsFor t.errand t.inputs client → tries ≡ t.tries → GoesBehind (then_next (known_in_try t) t) (Ok (client, tries))
   open-goes client tries open_yet stands left =
@@ -59,13 +69,19 @@ module _ (t : Try) where
   open-printed written going open_yet =
       subst (λ (line : List ℕ). Appends written written line) (sym (ap (λ (k : Known). line_between k t) open_yet)) (Appends-nil written)
 
-  pub accepted-goes : (digest : List ℕ) → known_in_try t ≡ known.Accepted digest → GoesBehind (then_next (known_in_try t) t) (Err (Ended (Knows (known.Accepted digest))))
-  accepted-goes digest is =
-      (ap known_in_try (ap (λ (k : Known). then_next k t) is) ∙ is, λ open_yet. let q : known.Accepted digest ≡ known.Open = open_yet in cc)
+  pub accepted-goes : (digest : List ℕ) → known_in_try t ≡ known.Accepted digest → GoesBehind (then_next (known.Accepted digest) t) (Err (Ended (Knows (known.Accepted digest))))
+  accepted-goes digest is = (is, λ open_yet. let q : known.Accepted digest ≡ known.Open = open_yet in cc)
 
-  pub accepted-printed : (written : Option (List ℕ)) (digest : List ℕ) (so : Known) → known_in_try t ≡ known.Accepted digest → PrintsBehind (line_between (known_in_try t) t) written written (Err (Ended (Knows so)))
-  accepted-printed written digest so is =
-      subst (λ (line : List ℕ). Appends written written line) (sym (ap (λ (k : Known). line_between k t) is)) (Appends-nil written)
+  pub accepted-printed : (written : Option (List ℕ)) (digest : List ℕ) → t.details ≡ false → PrintsBehind (line_between (known.Accepted digest) t) written written (Err (Ended (Knows (known.Accepted digest))))
+  accepted-printed written digest plain =
+      subst (λ (line : List ℕ). Appends written written line) (sym (ap (λ (b : Bool). if b then told-text digest else []) plain)) (Appends-nil written)
+
+  -- with details it is told
+  pub told-goes : (digest : List ℕ) → known_in_try t ≡ known.Accepted digest → GoesBehind (then_next (known.Accepted digest) t) (Err (Told digest))
+  told-goes digest is = is
+
+  pub told-lines : (digest text : List ℕ) → t.details ≡ true → text ≡ told-text digest → text ≡ lines_accepted digest t
+  told-lines digest text detailed is = is ∙ sym (ap (λ (b : Bool). if b then told-text digest else []) detailed)
 
   -- another one follows
   pub next-goes : (digest : List ℕ) (result : Result Going TryEnding) → has_next t ≡ true → GoesBehind next result → GoesBehind (then_next (known.Aborted digest) t) result
@@ -91,33 +107,93 @@ module _ (t : Try) where
 
 -- ---- what is given at an input
 
-pub given-by : (offers : Offers) (line : List ℕ) (a b : LinkTold) (w w' : Option (List ℕ)) (result : Result Going TryEnding) → AddsOffers offers a.offered b.offered → PrintsBehind line w w' result → GivenBy offers line (beside a w) (beside b w') result
-given-by offers line a b w w' (Ok going) adds printed = record { offered = adds; written = printed }
-given-by offers line a b w w' (Err (Ended (Knows so))) adds printed = record { offered = adds; written = printed }
-given-by offers line a b w w' (Err (Ended (Refused cause))) adds printed = record { offered = adds; written = printed }
-given-by offers line a b w w' (Err (Ended LinkFault)) adds printed = record { offered = adds; written = printed }
-given-by offers line a b w w' (Err (Ended Memory)) adds printed = record { offered = front-all a.offered b.offered offers adds; written = printed }
-given-by offers line a b w w' (Err WriteFault) adds printed = record { offered = front-all a.offered b.offered offers adds; written = printed }
+-- whether a session is announced
+pub announced : (t : Try) (input : ClientInput) (announcing : Bool) → announcing ≡ (t.details && is_none (submitted (phase_in_try t))) → announcement announcing (phase_in_try (with_input input t)) ≡ line_before input t
+announced t input announcing is =
+    ap (λ (b : Bool). announcement b (phase_in_try (with_input input t))) is ∙ by t.details (phase_in_try t) (phase_in_try (with_input input t))
+  where
+    by : (details : Bool) (old new : Phase) → announcement (details && is_none (submitted old)) new ≡ (if details then option_map_or session_line (newly old new) [] else [])
+    by false old new = refl
+    by true Asking new = refl
+    by true (Wanting x) new = refl
+    by true (Submitting x) new = refl
+    by true Idle new = refl
 
--- memory ran out before a line was printed
-pub given-short : (offers : Offers) (line : List ℕ) (a b : LinkTold) (w : Option (List ℕ)) → AddsFront offers a.offered b.offered → GivenBy offers line (beside a w) (beside b w) (Err (Ended Memory))
-given-short offers line a b w front = record { offered = front; written = AppendsFront-none w line }
+-- the line of a session that is announced
+pub announced-text : (t : Try) (announcing : Bool) (x : Session) → announcing ≡ true → Some x ≡ submitted (phase_in_try t) → session_line x ≡ announcement announcing (phase_in_try t)
+announced-text t announcing x on is =
+    ap (λ (o : Option Session). option_map_or session_line o []) is
+    ∙ sym (ap (λ (b : Bool). if b then option_map_or session_line (submitted (phase_in_try t)) [] else []) on)
+
+-- all that was given at it, one after the other
+pub given-by : (offers : Offers) (before behind : List ℕ) (a b : LinkTold) (w m w' : Option (List ℕ)) (result : Result Going TryEnding) → Appends w m before → AddsOffers offers a.offered b.offered → PrintsBehind behind m w' result
+    → GivenBy offers before behind (beside a w) (beside b w') result
+given-by offers before behind a b w m w' (Ok going) first adds printed = record { offered = adds; written = Appends-trans w m w' before behind first printed }
+given-by offers before behind a b w m w' (Err (Ended (Knows so))) first adds printed = record { offered = adds; written = Appends-trans w m w' before behind first printed }
+given-by offers before behind a b w m w' (Err (Ended (Refused cause))) first adds printed = record { offered = adds; written = Appends-trans w m w' before behind first printed }
+given-by offers before behind a b w m w' (Err (Ended LinkFault)) first adds printed = record { offered = adds; written = Appends-trans w m w' before behind first printed }
+given-by offers before behind a b w m w' (Err (Ended Memory)) first adds printed = inr (record { between = m; announced = first; offered = front-all a.offered b.offered offers adds; written = printed })
+given-by offers before behind a b w m w' (Err (Told digest)) first adds printed = record { offered = adds; written = Appends-trans w m w' before behind first printed }
+given-by offers before behind a b w m w' (Err WriteFault) first adds printed = inr (record { between = m; announced = first; offered = front-all a.offered b.offered offers adds; written = printed })
+
+-- memory ran out while what is said was offered
+pub given-short : (offers : Offers) (before behind : List ℕ) (a b : LinkTold) (w m : Option (List ℕ)) → Appends w m before → AddsFront offers a.offered b.offered → GivenBy offers before behind (beside a w) (beside b m) (Err (Ended Memory))
+given-short offers before behind a b w m first front = inr (record { between = m; announced = first; offered = front; written = AppendsFront-none m behind })
+
+-- the session could not be announced, and nothing was offered
+pub given-none : (offers : Offers) (before behind : List ℕ) (a : LinkTold) (w w' : Option (List ℕ)) (error : WriteError) → AppendsFront w w' before → GivenBy offers before behind (beside a w) (beside a w') (Err (unwritten error))
+given-none offers before behind a w w' write.Failed front = inl (record { offered = stays-same a.offered; written = front })
+given-none offers before behind a w w' write.Memory front = inl (record { offered = stays-same a.offered; written = front })
+
+pub none-goes : (t : Try) (error : WriteError) → GoesBehind t (Err (unwritten error))
+none-goes t write.Failed = tt
+none-goes t write.Memory = tt
+
+pub none-printed : (line : List ℕ) (w w' : Option (List ℕ)) (error : WriteError) → AppendsFront w w' line → PrintsBehind line w w' (Err (unwritten error))
+none-printed line w w' write.Failed front = front
+none-printed line w w' write.Memory front = front
+
+-- where a text isn't written the sink failed, or memory ran out
+abbrev FailedWrite : WriteError → Type 0
+FailedWrite error = let r : Result (Unit {0}) WriteError = Err error in r ≡ Err write.Failed
+
+failed-write : (error : WriteError) → unwritten error ≡ WriteFault → FailedWrite error
+failed-write write.Failed is = refl
+failed-write write.Memory is = absurd (let e : Ended Memory ≡ WriteFault = is in cc)
+
+pub unwritten-told : (a b : ℕ) (error : WriteError) (ending : TryEnding) → ending ≡ unwritten error → HasCause a b (FailedWrite error) → HasCause a b (ending ≡ WriteFault)
+unwritten-told a b error ending is cause = record { later = cause.later; cause = λ failed. cause.cause (failed-write error (sym is ∙ failed)) }
+
+abbrev err-of : {A : Type 0} → TryEnding → Result A TryEnding → TryEnding
+err-of other (Ok x) = other
+err-of other (Err ending) = ending
+
+inside-err : {A : Type 0} (ending : TryEnding) → (let r : Result A TryEnding = Err ending in r ≡ Err WriteFault) → ending ≡ WriteFault
+inside-err {A} ending failed = ap (λ (r : Result A TryEnding). err-of ending r) failed
+
+pub unwritten-sink : (A : Type 0) (a b : ℕ) (error : WriteError) (ending : TryEnding) → ending ≡ unwritten error → HasCause a b (FailedWrite error)
+    → HasCause a b (let r : Result A TryEnding = Err ending in r ≡ Err WriteFault)
+unwritten-sink A a b error ending is cause =
+    record { later = cause.later; cause = λ failed. cause.cause (failed-write error (sym is ∙ inside-err {A = A} ending failed)) }
 
 -- memory ran out before anything was given
-pub none-given : (offers : Offers) (line : List ℕ) (a : Beside LinkTold) → GivesFront offers line a a
-none-given offers line a = record { offered = ([], offers, refl, adds-none a.told.offered); written = AppendsFront-none a.written line }
+pub none-given : (offers : Offers) (before behind : List ℕ) (a : Beside LinkTold) → GivesPart offers before behind a a
+none-given offers before behind a = inl (record { offered = stays-same a.told.offered; written = AppendsFront-none a.written before })
 
-pub said-goes : (t : Try) (input : ClientInput) (outs : List Out) (old new : Beside LinkTold) (result : Result Going TryEnding) → outs ≡ outs_of_sayings t.errand.keys (says_at t.errand input t.inputs)
-    → GoesBehind (moved_on (with_input input t)) result → GivenBy (offers_in outs) (line_at input t) old new result → TryGoesBy t input old new result
-said-goes t input outs old new result is goes given =
-    by result goes (subst (λ (o : List Out). GivenBy (offers_in o) (line_at input t) old new result) is given)
+pub said-goes : (t : Try) (input : ClientInput) (announcing : Bool) (outs : List Out) (old new : Beside LinkTold) (result : Result Going TryEnding) → announcing ≡ (t.details && is_none (submitted (phase_in_try t))) → outs ≡ outs_of_sayings t.errand.keys (says_at t.errand input t.inputs)
+    → GoesBehind (moved_on (with_input input t)) result → GivenBy (offers_in outs) (announcement announcing (phase_in_try (with_input input t))) (line_behind input t) old new result → TryGoesBy t input old new result
+said-goes t input announcing outs old new result announces is goes given =
+    by result goes
+    (subst (λ (text : List ℕ). GivenBy (offers_at t.errand input t.inputs) text (line_behind input t) old new result) (announced t input announcing announces)
+    (subst (λ (o : List Out). GivenBy (offers_in o) (announcement announcing (phase_in_try (with_input input t))) (line_behind input t) old new result) is given))
   where
-    by : (result : Result Going TryEnding) → GoesBehind (moved_on (with_input input t)) result → GivenBy (offers_at t.errand input t.inputs) (line_at input t) old new result → TryGoesBy t input old new result
+    by : (result : Result Going TryEnding) → GoesBehind (moved_on (with_input input t)) result → GivenBy (offers_at t.errand input t.inputs) (line_before input t) (line_behind input t) old new result → TryGoesBy t input old new result
     by (Ok going) goes given = (goes, given)
     by (Err (Ended (Knows so))) goes given = (goes, given)
     by (Err (Ended (Refused cause))) goes given = absurd goes
     by (Err (Ended LinkFault)) goes given = (goes, given)
     by (Err (Ended Memory)) goes given = (goes, given)
+    by (Err (Told digest)) goes given = (goes, given)
     by (Err WriteFault) goes given = (goes, given)
 
 -- a link that takes an input was offered nothing
@@ -125,16 +201,19 @@ module _ (a b : LinkTold) (w : Option (List ℕ)) (c : Beside LinkTold) (stays :
   gives-later : (offers : Offers) (line : List ℕ) → Gives offers line (beside b w) c → Gives offers line (beside a w) c
   gives-later offers line gives = record { offered = adds-later a.offered b.offered c.told.offered offers stays gives.offered; written = gives.written }
 
-  part-later : (offers : Offers) (line : List ℕ) → GivesFront offers line (beside b w) c → GivesFront offers line (beside a w) c
-  part-later offers line gives = record { offered = front-later a.offered b.offered c.told.offered offers stays gives.offered; written = gives.written }
+  part-later : (offers : Offers) (before behind : List ℕ) → GivesPart offers before behind (beside b w) c → GivesPart offers before behind (beside a w) c
+  part-later offers before behind (inl cut) = inl (record { offered = stays-both a.offered b.offered c.told.offered stays cut.offered; written = cut.written })
+  part-later offers before behind (inr cut) =
+      inr (record { between = cut.between; announced = cut.announced; offered = front-later a.offered b.offered c.told.offered offers stays cut.offered; written = cut.written })
 
   pub goes-later : (t : Try) (input : ClientInput) (result : Result Going TryEnding) → TryGoesBy t input (beside b w) c result → TryGoesBy t input (beside a w) c result
   goes-later t input (Ok going) (goes, given) = (goes, gives-later _ _ given)
   goes-later t input (Err (Ended (Knows so))) (goes, given) = (goes, gives-later _ _ given)
   goes-later t input (Err (Ended (Refused cause))) (goes, given) = (goes, gives-later _ _ given)
   goes-later t input (Err (Ended LinkFault)) (goes, given) = absurd goes
-  goes-later t input (Err (Ended Memory)) (goes, given) = (goes, part-later _ _ given)
-  goes-later t input (Err WriteFault) (goes, given) = (goes, part-later _ _ given)
+  goes-later t input (Err (Ended Memory)) (goes, given) = (goes, part-later _ _ _ given)
+  goes-later t input (Err (Told digest)) (goes, given) = (goes, gives-later _ _ given)
+  goes-later t input (Err WriteFault) (goes, given) = (goes, part-later _ _ _ given)
 
 -- ---- one turn
 
@@ -169,6 +248,7 @@ try-ended t a c (Ended (Knows (known.Aborted digest))) one = one
 try-ended t a c (Ended (Refused cause)) one = one
 try-ended t a c (Ended LinkFault) one = absurd one.goes.0
 try-ended t a c (Ended Memory) one = one
+try-ended t a c (Told digest) one = one
 try-ended t a c WriteFault one = one
 
 -- ---- so many turns
@@ -185,8 +265,8 @@ pub record TriesSoFar (first : Try) (until : Until) (turns ticks : ℕ) (old new
   pub missed : new.told.missed ≡ missed_past old.told.missed inputs
   pub gives : GivesTries first inputs old new
 
-pub tries-begin : (e : Errand) (tries : ℕ) (until : Until) (a : Beside LinkTold) (client : Client) → ClientStandsFor e [] client → knows e [] ≡ known.Open → TriesSoFar (try_begun e tries) until 0 0 a a (client, tries)
-tries-begin e tries until a client stands open_yet = record {
+pub tries-begin : (details : Bool) (e : Errand) (tries : ℕ) (until : Until) (a : Beside LinkTold) (client : Client) → ClientStandsFor e [] client → knows e [] ≡ known.Open → TriesSoFar (try_begun details e tries) until 0 0 a a (client, tries)
+tries-begin details e tries until a client stands open_yet = record {
   inputs = [];
   all = refl;
   ticked = refl;
@@ -199,17 +279,32 @@ tries-begin e tries until a client stands open_yet = record {
 }
 
 -- a turn, whatever came before
-abbrev pub TurnOf : Client → ℕ → Beside LinkTold → Beside LinkTold → Result (Client × ℕ × Bool) TryEnding → Type 0
-TurnOf client tries old new result = (t : Try) → ClientStandsFor t.errand t.inputs client → tries ≡ t.tries → TryTakesTurn t old new result
+abbrev pub TurnOf : Bool → Client → ℕ → Beside LinkTold → Beside LinkTold → Result (Client × ℕ × Bool) TryEnding → Type 0
+TurnOf details client tries old new result = (t : Try) → ClientStandsFor t.errand t.inputs client → details ≡ t.details → tries ≡ t.tries → TryTakesTurn t old new result
+
+-- all tries of a run have details, or none
+same-details : (k : Known) (t : Try) → (then_next k t).details ≡ t.details
+same-details known.Open t = refl
+same-details (known.Accepted digest) t = refl
+same-details (known.Aborted digest) t = by (has_next t)
+  where
+    by : (b : Bool) → (if b then try_begun t.details (errand_again t.errand) (t.tries - 1) else t).details ≡ t.details
+    by true = refl
+    by false = refl
+
+details-kept : (first : Try) (inputs : List ClientInput) → first.details ≡ (try_after first inputs).details
+details-kept first [] = refl
+details-kept first (input ∷ past) =
+    let t = with_input input (try_after first past) in details-kept first past ∙ sym (same-details (known_in_try t) t)
 
 one-more : (input : ClientInput) (past : List ClientInput) (n : ℕ) → length past ≡ n → length (input ∷ past) ≡ n + 1
 one-more input past n is = omega arith
 
-pub tries-go-on : (first : Try) (until : Until) (turns ticks : ℕ) (a b c : Beside LinkTold) (client later : Client) (tries left : ℕ) (ticked : Bool) (more : ℕ) → more ≡ from_bool ticked → (IsOver until turns ticks → ⊥) → TriesSoFar first until turns ticks a b (client, tries)
-    → TurnOf client tries b c (Ok (later, left, ticked)) → TriesSoFar first until (turns + 1) (ticks + more) a c (later, left)
-tries-go-on first until turns ticks a b c client later tries left ticked more counted still so turn =
+pub tries-go-on : (first : Try) (details : Bool) (same : details ≡ first.details) (until : Until) (turns ticks : ℕ) (a b c : Beside LinkTold) (client later : Client) (tries left : ℕ) (ticked : Bool) (more : ℕ) → more ≡ from_bool ticked → (IsOver until turns ticks → ⊥) → TriesSoFar first until turns ticks a b (client, tries)
+    → TurnOf details client tries b c (Ok (later, left, ticked)) → TriesSoFar first until (turns + 1) (ticks + more) a c (later, left)
+tries-go-on first details same until turns ticks a b c client later tries left ticked more counted still so turn =
     let t = try_after first so.inputs in
-    let both = turn t so.goes.stands so.goes.tries_are in
+    let both = turn t so.goes.stands (same ∙ details-kept first so.inputs) so.goes.tries_are in
     let one = both.0 in
     record {
       inputs = one.input ∷ so.inputs;
@@ -220,7 +315,7 @@ tries-go-on first until turns ticks a b c client later tries left ticked more co
       unknown = (so.goes.unknown, so.unknown);
       goes = one.goes.0;
       missed = one.missed;
-      gives = Gives-more a b c (offers_in_tries first so.inputs) (offers_at t.errand one.input t.inputs) (lines_in first so.inputs) (line_at one.input t) so.gives one.goes.1;
+      gives = Gives-more a b c (offers_in_tries first so.inputs) (offers_at t.errand one.input t.inputs) (lines_in first so.inputs) (line_before one.input t ++ line_behind one.input t) so.gives one.goes.1;
     }
 
 -- ---- how it ends
@@ -232,7 +327,7 @@ tries-nothing first until a = record {
   needed = tt;
   takes = takes-none a.told a.told (stays-same a.told.left);
   unknown = tt;
-  ends = GivesFront-all a a [] [] (Gives-nil a);
+  ends = Gives-nil a;
 }
 
 -- they were enough
@@ -252,18 +347,18 @@ kept offers lines a b c stays same gives = record {
   written = subst (λ (w : Option (List ℕ)). Appends a.written w lines) (sym same) gives.written;
 }
 
-module _ (first : Try) (until : Until) (turns ticks : ℕ) (a b c : Beside LinkTold) (client : Client) (tries : ℕ) (still : IsOver until turns ticks → ⊥) (so : TriesSoFar first until turns ticks a b (client, tries)) where
+module _ (first : Try) (details : Bool) (same : details ≡ first.details) (until : Until) (turns ticks : ℕ) (a b c : Beside LinkTold) (client : Client) (tries : ℕ) (still : IsOver until turns ticks → ⊥) (so : TriesSoFar first until turns ticks a b (client, tries)) where
   abbrev now : Try
   now = try_after first so.inputs
 
   one-needed : (input : ClientInput) → AreNeeded is_tick until (input ∷ so.inputs)
   one-needed input = still-by is_tick until so.inputs turns ticks so.all so.ticked still
 
-  more-given : (input : ClientInput) → Gives (offers_at now.errand input now.inputs) (line_at input now) b c → GivesTries first (input ∷ so.inputs) a c
-  more-given input gives = Gives-more a b c (offers_in_tries first so.inputs) (offers_at now.errand input now.inputs) (lines_in first so.inputs) (line_at input now) so.gives gives
+  more-given : (input : ClientInput) → Gives (offers_at now.errand input now.inputs) (line_before input now ++ line_behind input now) b c → GivesTries first (input ∷ so.inputs) a c
+  more-given input gives = Gives-more a b c (offers_in_tries first so.inputs) (offers_at now.errand input now.inputs) (lines_in first so.inputs) (line_before input now ++ line_behind input now) so.gives gives
 
-  more-part : (input : ClientInput) → GivesFront (offers_at now.errand input now.inputs) (line_at input now) b c → GivesFront (offers_in_tries first (input ∷ so.inputs)) (lines_in first (input ∷ so.inputs)) a c
-  more-part input gives = GivesFront-after a b c (offers_in_tries first so.inputs) (offers_at now.errand input now.inputs) (lines_in first so.inputs) (line_at input now) so.gives gives
+  more-part : (input : ClientInput) → GivesPart (offers_at now.errand input now.inputs) (line_before input now) (line_behind input now) b c → TriesCut first (input ∷ so.inputs) a c
+  more-part input part = (b, so.gives, part)
 
   at-last : (ending : TryEnding) → (one : TryAnswers now b c (Err ending)) → TriesEnd first until (one.input ∷ so.inputs) a c ending → AttendsTries first until a c ending
   at-last ending one ends = record {
@@ -274,13 +369,13 @@ module _ (first : Try) (until : Until) (turns ticks : ℕ) (a b c : Beside LinkT
     ends = ends;
   }
 
-  turned : (ending : TryEnding) → TurnOf client tries b c (Err ending) → TryTakesTurn now b c (Err ending)
-  turned ending turn = turn now so.goes.stands so.goes.tries_are
+  turned : (ending : TryEnding) → TurnOf details client tries b c (Err ending) → TryTakesTurn now b c (Err ending)
+  turned ending turn = turn now so.goes.stands (same ∙ details-kept first so.inputs) so.goes.tries_are
 
   known-last : (k : Known) → (one : TryAnswers now b c (Err (Ended (Knows k)))) → AttendsTries first until a c (Ended (Knows k))
   known-last k one = at-last (Ended (Knows k)) one (one.goes.0.0, λ open_yet. absurd (one.goes.0.1 open_yet), more-given one.input one.goes.1)
 
-  pub tries-end : (ending : TryEnding) → TurnOf client tries b c (Err ending) → AttendsTries first until a c ending
+  pub tries-end : (ending : TryEnding) → TurnOf details client tries b c (Err ending) → AttendsTries first until a c ending
   tries-end (Ended (Knows known.Open)) turn =
       let one = turned (Ended (Knows known.Open)) turn in
       record {
@@ -316,4 +411,5 @@ module _ (first : Try) (until : Until) (turns ticks : ℕ) (a b c : Beside LinkT
         );
       }
   tries-end (Ended Memory) turn = let one = turned (Ended Memory) turn in at-last (Ended Memory) one (more-part one.input one.goes.1)
+  tries-end (Told digest) turn = let one = turned (Told digest) turn in at-last (Told digest) one (one.goes.0, more-given one.input one.goes.1)
   tries-end WriteFault turn = let one = turned WriteFault turn in at-last WriteFault one (more-part one.input one.goes.1)

@@ -1,8 +1,11 @@
 -- A client over a link whose call is made again after it was aborted: what it takes, what is offered and printed, and
 -- how its run ends.
-use Rattle.std.specs.Prelude.{◌≡◌, ◌≢◌, ℕ, ◌+◌, ◌-◌, ◌^◌, min, Bool, List, [], ◌∷◌, ◌++◌, Option, Result, Ok, Err}
+use Rattle.std.specs.Prelude.{◌≡◌, ◌≢◌, ◌⊎◌, ℕ, ◌+◌, ◌-◌, ◌^◌, min, Bool, List, [], ◌∷◌, ◌++◌, Option, Result, Ok, Err}
 use Rattle.std.specs.Io.KnownBytes.{Appends}
 use Rattle.cs_base.specs.Answers.{AppendsFront}
+use Rattle.cs_base.specs.declared.printing.WriteError.{WriteError}
+use Rattle.cs_base.specs.declared.printing.WriteError.TheVariants as write
+use Rattle.cs_io.specs.Told.{Stays}
 use Rattle.cs_io.specs.Link.{Offers}
 use Rattle.cs_io.specs.Outside.{LinkTold, Beside}
 use Rattle.cs_io.specs.Until.{AreNeeded}
@@ -13,13 +16,14 @@ use Rattle.cs_client.specs.declared.known.Known.TheVariants as known
 use Rattle.cs_client.specs.Inputs.{ClientInput}
 use Rattle.cs_client.specs.Seen.{Client}
 use Rattle.cs_client.specs.Standing.{ClientStandsFor, MethodIsRefused}
-use Rattle.cs_tries.specs.Tries.{Try, with_input, known_in_try, then_next, moved_on, try_after, line_between, line_at, lines_in}
+use Rattle.cs_tries.specs.Tries.{Try, with_input, known_in_try, then_next, moved_on, try_after, line_before, line_behind, lines_in}
 use Rattle.cs_serve.specs.declared.receiving.TheConstants.{MOST_MISSED}
 use Rattle.cs_serve.specs.declared.client_ending.Ending.{Ending}
 use Rattle.cs_serve.specs.declared.client_ending.Ending.TheVariants.{Knows, Refused, LinkFault, Memory}
 use Rattle.cs_tries.specs.declared.ending.TryEnding.{TryEnding}
-use Rattle.cs_tries.specs.declared.ending.TryEnding.TheVariants.{Ended, WriteFault}
-use Rattle.cs_serve.specs.Giving.{Gives, GivesFront}
+use Rattle.cs_tries.specs.declared.ending.TryEnding.TheVariants.{Ended, Told, WriteFault}
+use Rattle.cs_serve.specs.Offering.{AddsFront}
+use Rattle.cs_serve.specs.Giving.{Gives}
 use Rattle.cs_serve.specs.Attending.{is_tick, ClientTakes, offers_at, InputsAreOver, missed_past, HasNone, HasFailed}
 
 -- all that is said at these inputs, as datagrams with who they are for
@@ -31,6 +35,23 @@ offers_in_tries first (input ∷ past) =
 -- it was offered, and the lines of all tries printed that others followed
 abbrev pub GivesTries : Try → List ClientInput → Beside LinkTold → Beside LinkTold → Type 0
 GivesTries first inputs = Gives (offers_in_tries first inputs) (lines_in first inputs)
+
+-- ---- part of what was to be given at an input, in this order: a text, these offers, another text
+
+-- the first text wasn't printed whole, so nothing was offered
+pub record IsCutBefore (before : List ℕ) (old new : Beside LinkTold) : Type 0 where
+  pub offered : Stays old.told.offered new.told.offered
+  pub written : AppendsFront old.written new.written before
+
+-- it was; behind it there is a front of each of the others
+pub record IsCutBehind (offers : Offers) (before behind : List ℕ) (old new : Beside LinkTold) : Type 0 where
+  pub between : Option (List ℕ)
+  pub announced : Appends old.written between before
+  pub offered : AddsFront offers old.told.offered new.told.offered
+  pub written : AppendsFront between new.written behind
+
+abbrev pub GivesPart : Offers → List ℕ → List ℕ → Beside LinkTold → Beside LinkTold → Type 0
+GivesPart offers before behind old new = IsCutBefore before old new ⊎ IsCutBehind offers before behind old new
 
 -- ---- how it ends
 
@@ -45,7 +66,15 @@ TriesRefused first [] old new cause = ⊥
 TriesRefused first (input ∷ past) old new cause =
     let t = try_after first past in MethodIsRefused t.errand t.inputs input cause × GivesTries first past old new
 
--- as a client ends, with the last try; or a line could not be printed
+-- all was given before the last of these inputs, and part of what was to be given at it
+abbrev pub TriesCut : Try → List ClientInput → Beside LinkTold → Beside LinkTold → Type 0
+TriesCut first [] old new = Gives [] [] old new
+TriesCut first (input ∷ past) old new =
+    let t = try_after first past in
+    (between : Beside LinkTold) × GivesTries first past old between
+    × GivesPart (offers_at t.errand input t.inputs) (line_before input t) (line_behind input t) between new
+
+-- as a client ends, with the last try; or it told that it is accepted; or a line could not be printed
 abbrev pub TriesEnd : Try → Until → List ClientInput → Beside LinkTold → Beside LinkTold → TryEnding → Type 0
 TriesEnd first until inputs old new (Ended (Knows so)) =
     (known_in_try (try_after first inputs) ≡ so) × (so ≡ known.Open → InputsAreOver until inputs new.told)
@@ -54,10 +83,10 @@ TriesEnd first until inputs old new (Ended (Refused cause)) = TriesRefused first
 TriesEnd first until inputs old new (Ended LinkFault) =
     (new.told.missed ≡ min (missed_past old.told.missed inputs + MOST_MISSED) (2 ^ 64 - 1))
     × (known_in_try (try_after first inputs) ≡ known.Open) × GivesTries first inputs old new
-TriesEnd first until inputs old new (Ended Memory) =
-    GivesFront (offers_in_tries first inputs) (lines_in first inputs) old new
-TriesEnd first until inputs old new WriteFault =
-    GivesFront (offers_in_tries first inputs) (lines_in first inputs) old new
+TriesEnd first until inputs old new (Ended Memory) = TriesCut first inputs old new
+TriesEnd first until inputs old new (Told digest) =
+    (known_in_try (try_after first inputs) ≡ known.Accepted digest) × GivesTries first inputs old new
+TriesEnd first until inputs old new WriteFault = TriesCut first inputs old new
 
 -- A client was run: these inputs were taken, none of them too many, and before the last of them nothing was known; and
 -- it ended so.
@@ -69,6 +98,11 @@ pub record AttendsTries (first : Try) (until : Until) (old new : Beside LinkTold
   pub ends : TriesEnd first until inputs old new ending
 
 -- ---- one input
+
+-- where a text isn't written
+abbrev pub unwritten : WriteError → TryEnding
+unwritten write.Failed = WriteFault
+unwritten write.Memory = Ended Memory
 
 -- the client that goes on, with how many tries may be made with it
 abbrev pub Going : Type 0
@@ -87,6 +121,7 @@ GoesBehind t (Err (Ended (Knows so))) = (known_in_try t ≡ so) × (so ≢ known
 GoesBehind t (Err (Ended (Refused cause))) = ⊥
 GoesBehind t (Err (Ended LinkFault)) = ⊥
 GoesBehind t (Err (Ended Memory)) = Unit {0}
+GoesBehind t (Err (Told digest)) = known_in_try t ≡ known.Accepted digest
 GoesBehind t (Err WriteFault) = Unit {0}
 
 -- what was printed at it; a front of it where that could not be, and for want of memory
@@ -95,11 +130,11 @@ PrintsBehind line written written' (Err (Ended Memory)) = AppendsFront written w
 PrintsBehind line written written' (Err WriteFault) = AppendsFront written written' line
 PrintsBehind line written written' result = Appends written written' line
 
--- what was given at it; a front of it where a line could not be printed, and for want of memory
-abbrev pub GivenBy : Offers → List ℕ → Beside LinkTold → Beside LinkTold → Result Going TryEnding → Type 0
-GivenBy offers line old new (Err (Ended Memory)) = GivesFront offers line old new
-GivenBy offers line old new (Err WriteFault) = GivesFront offers line old new
-GivenBy offers line old new result = Gives offers line old new
+-- what was given at it; part of it where a line could not be printed, and for want of memory
+abbrev pub GivenBy : Offers → List ℕ → List ℕ → Beside LinkTold → Beside LinkTold → Result Going TryEnding → Type 0
+GivenBy offers before behind old new (Err (Ended Memory)) = GivesPart offers before behind old new
+GivenBy offers before behind old new (Err WriteFault) = GivesPart offers before behind old new
+GivenBy offers before behind old new result = Gives offers (before ++ behind) old new
 
 -- an input was answered, or the method is refused at it
 abbrev pub TryGoesBy : Try → ClientInput → Beside LinkTold → Beside LinkTold → Result Going TryEnding → Type 0
@@ -107,7 +142,7 @@ TryGoesBy t input old new (Err (Ended (Refused cause))) =
     MethodIsRefused t.errand t.inputs input cause × Gives [] [] old new
 TryGoesBy t input old new result =
     GoesBehind (moved_on (with_input input t)) result
-    × GivenBy (offers_at t.errand input t.inputs) (line_at input t) old new result
+    × GivenBy (offers_at t.errand input t.inputs) (line_before input t) (line_behind input t) old new result
 
 -- the first input that was left is gone, and was answered
 pub record TryAnswers (t : Try) (old new : Beside LinkTold) (result : Result Going TryEnding) : Type 0 where

@@ -1,11 +1,14 @@
 //! How the run of a client ends whose call is made again.
 use cs_serve::Ending;
+use cs_tx_value::Digest;
 
 /// How the run of a client ends whose call is made again after it was aborted.
 #[derive(Clone, Copy, Debug, PartialEq, Eq)]
 pub enum TryEnding {
     /// So the last try ends.
     Ended(Ending),
-    /// The line of one before it could not be written.
+    /// It knows that its session is accepted, of which the lines are printed.
+    Told(Digest),
+    /// A line could not be written.
     WriteFault,
 }

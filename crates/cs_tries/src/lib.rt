@@ -1,5 +1,5 @@
-//! A client whose call is made again after it was aborted, under the next number: its tries, what
-//! is printed of them, and the loop over a link.
+//! A client whose call is made again after it was aborted, under the next number, and one that tells
+//! the details of its session: its tries, what is printed of them, and the loop over a link.
 #![tactic(auto)]
 
 mod ending;

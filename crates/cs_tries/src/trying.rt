@@ -1,5 +1,8 @@
 //! Running a client whose call is made again after it was aborted.
-ghost use Rattle.std.specs.Prelude.{◌≡◌, ◌+◌, ◌-◌, ◌≤◌, true, List, [], length, IsErrOf};
+ghost use Rattle.std.specs.Prelude.{◌≡◌, ◌≢◌, ◌+◌, ◌-◌, ◌≤◌, true, List, [], length, Err, IfOk, OnOk, OnErr, IsErrOf, is_none, ◌&&◌, string_bytes};
+ghost use Rattle.std.specs.Option.{option_map_or};
+ghost use Rattle.std.specs.Io.KnownBytes.{Appends};
+ghost use Rattle.cs_base.specs.Answers.{AppendsFront};
 ghost use Rattle.cs_base.specs.Outside.{HasCause};
 ghost use Rattle.cs_base.specs.declared.limits.TheConstants.{MOST_DATAGRAM};
 ghost use Rattle.cs_io.specs.Told.{Stays};
@@ -9,13 +12,16 @@ ghost use Rattle.cs_client.specs.Lines.{known_line};
 ghost use Rattle.cs_client.specs.Inputs.{ClientInput, client_input};
 ghost use Rattle.cs_client.specs.Knowing.{knows};
 ghost use Rattle.cs_client.specs.Standing.{errand_again, ClientStandsFor};
-ghost use Rattle.cs_tries.specs.Tries.{Try, try_begun, may_follow, known_in_try, then_next, line_between};
+ghost use Rattle.cs_client.specs.Phases.{submitted};
+ghost use Rattle.cs_details.specs.Lines.{tx_lines};
+ghost use Rattle.cs_tries.specs.Tries.{Try, try_begun, may_follow, phase_in_try, known_in_try, then_next, announcement, lines_accepted, line_between};
 ghost use Rattle.cs_serve.specs.Offering.{offers_in};
-ghost use Rattle.cs_tries.specs.Trying.{AttendsTries, TryTakesTurn, TryGoesBy, GoesBehind, PrintsBehind, GivenBy};
+ghost use Rattle.cs_tries.specs.Trying.{AttendsTries, TryTakesTurn, TryGoesBy, GoesBehind, PrintsBehind, GivenBy, unwritten};
 
 use crate::ending::TryEnding;
-use cs_base::{MOST_DATAGRAM, Sequence, Sink, WriteError, print};
+use cs_base::{MOST_DATAGRAM, Memory, Sequence, Sink, WriteError, print};
 use cs_client::{ClientCore, ClientError, Input, Known, Out, known_line};
+use cs_details::{session_line, tx_lines};
 use cs_io::{Arrived, Link, Until};
 use cs_serve::{Ending, offer, receive};
 use cs_tx_value::Digest;
@@ -23,18 +29,20 @@ use std::alloc::Global;
 
 /// Gives a client the inputs of the link for so long, and offers what it says. Where it knows that
 /// its session is aborted, and another try may be made, the line of that is printed, and the call
-/// is made again under the next number; so many tries are made at most. It ends as the last one
-/// does, or where a line can't be printed.
+/// is made again under the next number; so many tries are made at most. With details it prints each
+/// session before it is submitted, and of one that is accepted the transaction. It ends as the last
+/// try does, or where a line can't be printed.
 pub fn attend_tries<L: Link, K: Sink>(
     alloc: Global,
     client: ClientCore,
+    details: bool,
     tries: u64,
     link: &mut L,
     out: &mut K,
     until: Until,
 ) -> TryEnding
     ensures attends { (e : Errand) → ClientStandsFor e [] client → knows e [] ≡ Known.Open
-        → AttendsTries (try_begun e tries) until
+        → AttendsTries (try_begun details e tries) until
         (beside (L.told link.old) (K.written out.old))
         (beside (L.told link.new) (K.written out.new)) result }
     ensures bound { Stays (L.told link.old).bound (L.told link.new).bound }
@@ -52,7 +60,7 @@ pub fn attend_tries<L: Link, K: Sink>(
     let mut turns = 0;
     let mut ticks = 0;
     while !until.is_over(turns, ticks) {
-        match take_turn(alloc, client, tries, link, out, buf) {
+        match take_turn(alloc, client, details, tries, link, out, buf) {
             Ok((next, left, ticked)) => {
                 client = next;
                 tries = left;
@@ -70,13 +78,15 @@ pub fn attend_tries<L: Link, K: Sink>(
 fn take_turn<L: Link, K: Sink>(
     alloc: Global,
     client: ClientCore,
+    details: bool,
     tries: u64,
     link: &mut L,
     out: &mut K,
     buf: &mut [u8],
 ) -> Result<(ClientCore, u64, bool), TryEnding>
     requires { length buf.old ≡ MOST_DATAGRAM + 1 }
-    ensures goes { (t : Try) → ClientStandsFor t.errand t.inputs client → tries ≡ t.tries →
+    ensures goes { (t : Try) → ClientStandsFor t.errand t.inputs client →
+        details ≡ t.details → tries ≡ t.tries →
         TryTakesTurn t (beside (L.told link.old) (K.written out.old))
         (beside (L.told link.new) (K.written out.new)) result }
     ensures bound { Stays (L.told link.old).bound (L.told link.new).bound }
@@ -90,11 +100,11 @@ fn take_turn<L: Link, K: Sink>(
         Arrived::Datagram(count) => {
             let (bytes, _) = buf.split_at(count);
             let input = Input::Datagram(bytes);
-            let (client, tries) = answer(alloc, client, tries, input, link, out)?;
+            let (client, tries) = answer(alloc, client, details, tries, input, link, out)?;
             Ok((client, tries, false))
         }
         Arrived::Tick => {
-            let (client, tries) = answer(alloc, client, tries, Input::Tick, link, out)?;
+            let (client, tries) = answer(alloc, client, details, tries, Input::Tick, link, out)?;
             Ok((client, tries, true))
         }
         Arrived::End => Err(TryEnding::Ended(Ending::Knows(Known::Open))),
@@ -107,12 +117,14 @@ fn take_turn<L: Link, K: Sink>(
 fn answer<L: Link, K: Sink>(
     alloc: Global,
     client: ClientCore,
+    details: bool,
     tries: u64,
     input: Input<'_>,
     link: &mut L,
     out: &mut K,
 ) -> Result<(ClientCore, u64), TryEnding>
-    ensures goes { (t : Try) → ClientStandsFor t.errand t.inputs client → tries ≡ t.tries →
+    ensures goes { (t : Try) → ClientStandsFor t.errand t.inputs client →
+        details ≡ t.details → tries ≡ t.tries →
         TryGoesBy t (client_input input.entry) (beside (L.told link.old) (K.written out.old))
         (beside (L.told link.new) (K.written out.new)) result }
     ensures only { IsErrOf result (TryEnding.Ended Ending.LinkFault) → ⊥ }
@@ -124,26 +136,41 @@ fn answer<L: Link, K: Sink>(
     ensures sink { HasCause (K.faults out.old) (K.faults out.new)
         (IsErrOf result TryEnding.WriteFault) }
 {
+    let announcing = is_announcing(details, &client);
     match client.step(alloc, input) {
-        Ok((client, outs)) => say(alloc, client, tries, outs, link, out),
+        Ok((client, outs)) => say(alloc, client, details, tries, announcing, outs, link, out),
         Err(ClientError::Refused(cause)) => Err(TryEnding::Ended(Ending::Refused(cause))),
         Err(ClientError::Memory) => Err(TryEnding::Ended(Ending::Memory)),
     }
 }
 
-// Offers what the client says, and asks it what it knows.
+// Whether a session that is submitted from now on is to be announced.
+fn is_announcing(details: bool, client: &ClientCore) -> bool
+    ensures { (t : Try) → ClientStandsFor t.errand t.inputs client.now →
+        result ≡ (details && is_none (submitted (phase_in_try t))) }
+{
+    details && client.session().is_none()
+}
+
+// Announces the session that is submitted, where it is to; offers what the client says, and asks it
+// what it knows.
 fn say<L: Link, K: Sink>(
     alloc: Global,
     client: ClientCore,
+    details: bool,
     tries: u64,
+    announcing: bool,
     outs: Sequence<Out>,
     link: &mut L,
     out: &mut K,
 ) -> Result<(ClientCore, u64), TryEnding>
-    ensures goes { (t : Try) → ClientStandsFor t.errand t.inputs client → tries ≡ t.tries →
+    ensures goes { (t : Try) → ClientStandsFor t.errand t.inputs client →
+        details ≡ t.details → tries ≡ t.tries →
         GoesBehind (then_next (known_in_try t) t) result }
-    ensures given { (t : Try) → ClientStandsFor t.errand t.inputs client → tries ≡ t.tries →
-        GivenBy (offers_in outs) (line_between (known_in_try t) t)
+    ensures given { (t : Try) → ClientStandsFor t.errand t.inputs client →
+        details ≡ t.details → tries ≡ t.tries →
+        GivenBy (offers_in outs) (announcement announcing (phase_in_try t))
+        (line_between (known_in_try t) t)
         (beside (L.told link.old) (K.written out.old))
         (beside (L.told link.new) (K.written out.new)) result }
     ensures only { IsErrOf result (TryEnding.Ended Ending.LinkFault) → ⊥ }
@@ -155,10 +182,123 @@ fn say<L: Link, K: Sink>(
     ensures sink { HasCause (K.faults out.old) (K.faults out.new)
         (IsErrOf result TryEnding.WriteFault) }
 {
+    if let Err(error) = announce(alloc, &client, announcing, out) {
+        return Err(unwritten(error));
+    }
     let Ok(()) = offer(link, outs.as_slice()) else {
         return Err(TryEnding::Ended(Ending::Memory));
     };
-    go_on(alloc, client, tries, out)
+    go_on(alloc, client, details, tries, out)
+}
+
+// How a run ends where a text isn't written.
+fn unwritten(error: WriteError) -> TryEnding
+    ensures { result ≡ unwritten error }
+{
+    match error {
+        WriteError::Failed => TryEnding::WriteFault,
+        WriteError::Memory => TryEnding::Ended(Ending::Memory),
+    }
+}
+
+// Prints the line of the session that is submitted, where it is to be announced.
+fn announce<K: Sink>(
+    alloc: Global,
+    client: &ClientCore,
+    announcing: bool,
+    out: &mut K,
+) -> Result<(), WriteError>
+    ensures done { (t : Try) → ClientStandsFor t.errand t.inputs client.now → OnOk result
+        (Appends (K.written out.old) (K.written out.new)
+        (announcement announcing (phase_in_try t))) }
+    ensures part { (t : Try) → ClientStandsFor t.errand t.inputs client.now → OnErr result
+        (AppendsFront (K.written out.old) (K.written out.new)
+        (announcement announcing (phase_in_try t))) }
+    ensures cause { HasCause (K.faults out.old) (K.faults out.new)
+        (IsErrOf result WriteError.Failed) }
+{
+    if !announcing {
+        return Ok(());
+    }
+    let Some(session) = client.session() else {
+        return Ok(());
+    };
+    let Ok(line) = session_line(alloc, session) else {
+        return Err(WriteError::Memory);
+    };
+    print(out, line.as_bytes())
+}
+
+// The lines of the transaction of the session that is submitted.
+fn lines_of(alloc: Global, client: &ClientCore) -> Result<String, Memory>
+    ensures { (t : Try) → ClientStandsFor t.errand t.inputs client.now →
+        IfOk result (λ lines. string_bytes lines
+        ≡ option_map_or (λ x. tx_lines t.errand.config x.tx) (submitted (phase_in_try t)) []) }
+{
+    match client.session() {
+        Some(session) => tx_lines(alloc, client.config(), &session.tx),
+        None => Ok(String::new(alloc)),
+    }
+}
+
+// That a session is accepted, with the lines of its transaction.
+fn accepted_text(alloc: Global, client: &ClientCore, digest: Digest) -> Result<String, Memory>
+    ensures { (t : Try) → ClientStandsFor t.errand t.inputs client.now → t.details ≡ true →
+        IfOk result (λ text. string_bytes text ≡ lines_accepted digest t) }
+{
+    let mut text = known_line(alloc, Known::Accepted(digest))?;
+    let lines = lines_of(alloc, client)?;
+    text.push_str(&lines)?;
+    Ok(text)
+}
+
+// Prints that a session is accepted, with the lines of its transaction.
+fn tell_accepted<K: Sink>(
+    alloc: Global,
+    client: ClientCore,
+    digest: Digest,
+    out: &mut K,
+) -> TryEnding
+    ensures goes { (t : Try) → ClientStandsFor t.errand t.inputs client →
+        known_in_try t ≡ Known.Accepted digest →
+        GoesBehind (then_next (Known.Accepted digest) t) (Err result) }
+    ensures printed { (t : Try) → ClientStandsFor t.errand t.inputs client → t.details ≡ true →
+        PrintsBehind (line_between (Known.Accepted digest) t)
+        (K.written out.old) (K.written out.new) (Err result) }
+    ensures only { result ≢ TryEnding.Ended Ending.LinkFault }
+    ensures sink { HasCause (K.faults out.old) (K.faults out.new) (result ≡ TryEnding.WriteFault) }
+{
+    let Ok(text) = accepted_text(alloc, &client, digest) else {
+        return TryEnding::Ended(Ending::Memory);
+    };
+    match print(out, text.as_bytes()) {
+        Ok(()) => TryEnding::Told(digest),
+        Err(error) => unwritten(error),
+    }
+}
+
+// How a run ends whose session is accepted, of which the details are printed.
+fn end_accepted<K: Sink>(
+    alloc: Global,
+    client: ClientCore,
+    details: bool,
+    digest: Digest,
+    out: &mut K,
+) -> TryEnding
+    ensures goes { (t : Try) → ClientStandsFor t.errand t.inputs client →
+        known_in_try t ≡ Known.Accepted digest →
+        GoesBehind (then_next (Known.Accepted digest) t) (Err result) }
+    ensures printed { (t : Try) → ClientStandsFor t.errand t.inputs client → details ≡ t.details →
+        PrintsBehind (line_between (Known.Accepted digest) t)
+        (K.written out.old) (K.written out.new) (Err result) }
+    ensures only { result ≢ TryEnding.Ended Ending.LinkFault }
+    ensures sink { HasCause (K.faults out.old) (K.faults out.new) (result ≡ TryEnding.WriteFault) }
+{
+    if details {
+        tell_accepted(alloc, client, digest, out)
+    } else {
+        TryEnding::Ended(Ending::Knows(Known::Accepted(digest)))
+    }
 }
 
 // Whether another try may follow.
@@ -173,12 +313,15 @@ fn may_follow(tries: u64, number: u64) -> bool
 fn go_on<K: Sink>(
     alloc: Global,
     client: ClientCore,
+    details: bool,
     tries: u64,
     out: &mut K,
 ) -> Result<(ClientCore, u64), TryEnding>
-    ensures goes { (t : Try) → ClientStandsFor t.errand t.inputs client → tries ≡ t.tries →
+    ensures goes { (t : Try) → ClientStandsFor t.errand t.inputs client →
+        details ≡ t.details → tries ≡ t.tries →
         GoesBehind (then_next (known_in_try t) t) result }
-    ensures printed { (t : Try) → ClientStandsFor t.errand t.inputs client → tries ≡ t.tries →
+    ensures printed { (t : Try) → ClientStandsFor t.errand t.inputs client →
+        details ≡ t.details → tries ≡ t.tries →
         PrintsBehind (line_between (known_in_try t) t)
         (K.written out.old) (K.written out.new) result }
     ensures only { IsErrOf result (TryEnding.Ended Ending.LinkFault) → ⊥ }
@@ -187,8 +330,8 @@ fn go_on<K: Sink>(
 {
     match client.known() {
         Known::Open => Ok((client, tries)),
-        Known::Accepted(digest) => Err(TryEnding::Ended(Ending::Knows(Known::Accepted(digest)))),
-        Known::Aborted(digest) => try_next(alloc, client, tries, digest, out),
+        Known::Accepted(digest) => Err(end_accepted(alloc, client, details, digest, out)),
+        Known::Aborted(digest) => try_next(alloc, client, details, tries, digest, out),
     }
 }
 
@@ -196,14 +339,17 @@ fn go_on<K: Sink>(
 fn try_next<K: Sink>(
     alloc: Global,
     client: ClientCore,
+    details: bool,
     tries: u64,
     digest: Digest,
     out: &mut K,
 ) -> Result<(ClientCore, u64), TryEnding>
-    ensures goes { (t : Try) → ClientStandsFor t.errand t.inputs client → tries ≡ t.tries →
+    ensures goes { (t : Try) → ClientStandsFor t.errand t.inputs client →
+        details ≡ t.details → tries ≡ t.tries →
         known_in_try t ≡ Known.Aborted digest →
         GoesBehind (then_next (Known.Aborted digest) t) result }
-    ensures printed { (t : Try) → ClientStandsFor t.errand t.inputs client → tries ≡ t.tries →
+    ensures printed { (t : Try) → ClientStandsFor t.errand t.inputs client →
+        details ≡ t.details → tries ≡ t.tries →
         PrintsBehind (line_between (Known.Aborted digest) t)
         (K.written out.old) (K.written out.new) result }
     ensures only { IsErrOf result (TryEnding.Ended Ending.LinkFault) → ⊥ }
@@ -211,7 +357,7 @@ fn try_next<K: Sink>(
         (IsErrOf result TryEnding.WriteFault) }
 {
     if may_follow(tries, client.number()) {
-        try_again(alloc, client, tries, Known::Aborted(digest), out)
+        try_again(alloc, client, details, tries, Known::Aborted(digest), out)
     } else {
         Err(TryEnding::Ended(Ending::Knows(Known::Aborted(digest))))
     }
@@ -221,14 +367,17 @@ fn try_next<K: Sink>(
 fn try_again<K: Sink>(
     alloc: Global,
     client: ClientCore,
+    details: bool,
     tries: u64,
     known: Known,
     out: &mut K,
 ) -> Result<(ClientCore, u64), TryEnding>
     requires { may_follow tries client.errand.call.number ≡ true }
-    ensures goes { (t : Try) → ClientStandsFor t.errand t.inputs client → tries ≡ t.tries →
-        GoesBehind (try_begun (errand_again t.errand) (t.tries - 1)) result }
-    ensures printed { PrintsBehind (known_line known) (K.written out.old) (K.written out.new) result }
+    ensures goes { (t : Try) → ClientStandsFor t.errand t.inputs client →
+        details ≡ t.details → tries ≡ t.tries →
+        GoesBehind (try_begun t.details (errand_again t.errand) (t.tries - 1)) result }
+    ensures printed { PrintsBehind (known_line known)
+        (K.written out.old) (K.written out.new) result }
     ensures only { IsErrOf result (TryEnding.Ended Ending.LinkFault) → ⊥ }
     ensures sink { HasCause (K.faults out.old) (K.faults out.new)
         (IsErrOf result TryEnding.WriteFault) }
@@ -241,7 +390,6 @@ fn try_again<K: Sink>(
             Ok(client) => Ok((client, tries - 1)),
             Err(_) => Err(TryEnding::Ended(Ending::Memory)),
         },
-        Err(WriteError::Failed) => Err(TryEnding::WriteFault),
-        Err(WriteError::Memory) => Err(TryEnding::Ended(Ending::Memory)),
+        Err(error) => Err(unwritten(error)),
     }
 }

@@ -1,6 +1,6 @@
 use Rattle.std.proofs.Common.{ℕ, List, Option, refl}
 use Rattle.cs_io.specs.Outside.{Object}
-use Rattle.cs_cli.specs.declared.words.Command.TheVariants.{Replay, Contract, Try, Verify, Audit, Simulate, Help, Version, Wallet, ReadKeys, Deploy}
+use Rattle.cs_cli.specs.declared.words.Command.TheVariants.{Replay, Contract, Try, Verify, Audit, Simulate, Help, Version, Wallet, Transaction, ReadKeys, Deploy}
 use Rattle.cs_cli.proofs.Sources.{kept}
 use Rattle.cs_cli.proofs.Doing.{does-so, wallet-does, read-keys-does, try-does}
 use Rattle.cs_cli.proofs.Leaving.{leaves-so}
@@ -46,6 +46,10 @@ pub returns-in-Wallet-clause-does : goal.returns-in-Wallet-clause-does
 returns-in-Wallet-clause-does g c =
     wallet-does _ _ _ _ c.in-Wallet.call _ c.args.command c.in-Wallet.is c.word_at-in-Wallet.ensures (record { runs = c.run_wallet.ensures.runs; whole = c.run_wallet.ensures.whole })
 
+pub returns-in-Transaction-clause-does : goal.returns-in-Transaction-clause-does
+returns-in-Transaction-clause-does g c =
+    does-so _ _ _ _ (Transaction c.in-Transaction.number) c.args.command c.in-Transaction.is (record { runs = c.run_transaction.ensures.runs; whole = c.run_transaction.ensures.whole })
+
 pub returns-in-ReadKeys-clause-does : goal.returns-in-ReadKeys-clause-does
 returns-in-ReadKeys-clause-does g c =
     read-keys-does _ _ _ _ c.in-ReadKeys.site _ c.args.command c.in-ReadKeys.is c.word_at-in-ReadKeys.ensures (record { runs = c.run_keys_read.ensures.runs; whole = c.run_keys_read.ensures.whole })
@@ -81,6 +85,9 @@ returns-in-Try-clause-alone g c = leaves-so _ _ (Try c.in-Try.file) c.args.comma
 
 pub returns-in-Wallet-clause-alone : goal.returns-in-Wallet-clause-alone
 returns-in-Wallet-clause-alone g c = leaves-so _ _ (Wallet c.in-Wallet.call) c.args.command c.in-Wallet.is (refl, (refl, refl))
+
+pub returns-in-Transaction-clause-alone : goal.returns-in-Transaction-clause-alone
+returns-in-Transaction-clause-alone g c = leaves-so _ _ (Transaction c.in-Transaction.number) c.args.command c.in-Transaction.is (refl, (refl, refl))
 
 pub returns-in-ReadKeys-clause-alone : goal.returns-in-ReadKeys-clause-alone
 returns-in-ReadKeys-clause-alone g c = leaves-so _ _ (ReadKeys c.in-ReadKeys.site) c.args.command c.in-ReadKeys.is (refl, refl)

@@ -16,12 +16,12 @@ returns-in-Client-clause-deploys g c = λ source source'.
 
 pub returns-in-ClientTries-clause-deploys : goal.returns-in-ClientTries-clause-deploys
 returns-in-ClientTries-clause-deploys g c = λ source source'.
-    tries-do _ _ _ _ c.in-ClientTries.site c.in-ClientTries.keys c.in-ClientTries.call c.in-ClientTries.hosts c.in-ClientTries.tries c.in-ClientTries.until _ _ _ _ c.args.deployment c.in-ClientTries.is c.word_at-site-in-ClientTries.ensures c.word_at-keys-in-ClientTries.ensures c.word_at-call-in-ClientTries.ensures c.word_if-hosts-in-ClientTries.ensures
+    tries-do _ _ _ _ c.in-ClientTries.site c.in-ClientTries.keys c.in-ClientTries.call c.in-ClientTries.hosts c.in-ClientTries.wishes c.in-ClientTries.until _ _ _ _ c.args.deployment c.in-ClientTries.is c.word_at-site-in-ClientTries.ensures c.word_at-keys-in-ClientTries.ensures c.word_at-call-in-ClientTries.ensures c.word_if-hosts-in-ClientTries.ensures
     (record { runs = c.run_client_tries.ensures.runs; kept = c.run_client_tries.ensures.kept; whole = c.run_client_tries.ensures.whole })
 
 pub returns-in-ClientSession-clause-deploys : goal.returns-in-ClientSession-clause-deploys
 returns-in-ClientSession-clause-deploys g c = λ source source'.
-    session-does _ _ _ _ c.in-ClientSession.site c.in-ClientSession.keys c.in-ClientSession.call c.in-ClientSession.hosts c.in-ClientSession.session c.in-ClientSession.until _ _ _ _ _ c.args.deployment c.in-ClientSession.is c.word_at-site-in-ClientSession.ensures c.word_at-keys-in-ClientSession.ensures c.word_at-call-in-ClientSession.ensures c.word_if-hosts-in-ClientSession.ensures c.word_at-session.ensures
+    session-does _ _ _ _ c.in-ClientSession.site c.in-ClientSession.keys c.in-ClientSession.call c.in-ClientSession.hosts c.in-ClientSession.details c.in-ClientSession.session c.in-ClientSession.until _ _ _ _ _ c.args.deployment c.in-ClientSession.is c.word_at-site-in-ClientSession.ensures c.word_at-keys-in-ClientSession.ensures c.word_at-call-in-ClientSession.ensures c.word_if-hosts-in-ClientSession.ensures c.word_at-session.ensures
     (record { runs = c.run_client_session.ensures.runs; kept = c.run_client_session.ensures.kept; whole = c.run_client_session.ensures.whole })
 
 pub returns-in-Show-clause-deploys : goal.returns-in-Show-clause-deploys
@@ -47,11 +47,11 @@ returns-in-Client-clause-alone g c = λ source.
 
 pub returns-in-ClientTries-clause-alone : goal.returns-in-ClientTries-clause-alone
 returns-in-ClientTries-clause-alone g c = λ source.
-    deployment-leaves _ _ (ClientTries c.in-ClientTries.site c.in-ClientTries.keys c.in-ClientTries.call c.in-ClientTries.hosts c.in-ClientTries.tries c.in-ClientTries.until) c.args.deployment c.in-ClientTries.is (refl, refl)
+    deployment-leaves _ _ (ClientTries c.in-ClientTries.site c.in-ClientTries.keys c.in-ClientTries.call c.in-ClientTries.hosts c.in-ClientTries.wishes c.in-ClientTries.until) c.args.deployment c.in-ClientTries.is (refl, refl)
 
 pub returns-in-ClientSession-clause-alone : goal.returns-in-ClientSession-clause-alone
 returns-in-ClientSession-clause-alone g c = λ source.
-    deployment-leaves _ _ (ClientSession c.in-ClientSession.site c.in-ClientSession.keys c.in-ClientSession.call c.in-ClientSession.hosts c.in-ClientSession.session c.in-ClientSession.until) c.args.deployment c.in-ClientSession.is (refl, refl)
+    deployment-leaves _ _ (ClientSession c.in-ClientSession.site c.in-ClientSession.keys c.in-ClientSession.call c.in-ClientSession.hosts c.in-ClientSession.details c.in-ClientSession.session c.in-ClientSession.until) c.args.deployment c.in-ClientSession.is (refl, refl)
 
 pub returns-in-Show-clause-alone : goal.returns-in-Show-clause-alone
 returns-in-Show-clause-alone g c = λ source.

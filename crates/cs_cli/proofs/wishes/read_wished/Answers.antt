@@ -23,6 +23,6 @@ returns c =
     let called = hosted (run_called c.args.word.now) in
     let options = c.args.options.now in
     let deployment = c.in_ok-deployment.deployment in
-    c.with_wish.ensures
+    c.with_wishes.ensures
     ∙ sym (wished-with called (texts_of options) c.in-Some.before _ (Some deployment) (c.in-Some.ensures.place ∙ sym (wish-place options)) (behind-texts options c.split_at.result.1.now c.in-Some.before c.split_at.ensures.back)
     (ap called (sym (front-texts options c.split_at.result.0.now c.in-Some.before c.split_at.ensures.front)) ∙ sym c.in_ok-deployment.ensures))

@@ -2,4 +2,4 @@ use Rattle.std.proofs.Common.{◌≡◌, None, replicate}
 use Rattle.cs_client.proofs.beliefs.no_words.Given as goal
 
 abbrev pub invariant-loop-member : goal.invariant-loop-member
-invariant-loop-member g l = l.words ≡ replicate l._member None
+invariant-loop-member l = l.words ≡ replicate l._member None

@@ -1,9 +1,7 @@
-use Rattle.std.proofs.Common.{Ok, None, ◌++◌, sym, ap, ◌∙◌}
-use Rattle.cs_wire_message.specs.declared.message.Message.TheVariants as message
-use Rattle.cs_client.specs.Nodes.{nodes_of_shards}
+use Rattle.std.proofs.Common.{Ok, ◌++◌, sym, ap, ◌∙◌}
 use Rattle.cs_client.specs.Sessions.{has_input}
 use Rattle.cs_client.specs.Phases.{Asking, Wanting, wanting, after_method}
-use Rattle.cs_client.specs.Sayings.{say_to_each, outs_of_sayings}
+use Rattle.cs_client.specs.Sayings.{wants_in, outs_of_sayings}
 use Rattle.cs_client.specs.Seen.{dummies_kept, Enters}
 use Rattle.cs_client.proofs.Entering.{if-ok, entered}
 use Rattle.cs_client.proofs.phases.begun.Goals as goal
@@ -28,6 +26,6 @@ returns-clause-enters c =
     (λ next. Enters e Asking (after_method e dummy (Ok c.args.tx.traces)) next before after)
     (λ next h. entered e dummy c.args.tx x next before mid after (sym c.has_input.ensures ∙ c.if-not-has_input.false) c.bare-session.ensures.session
     (c.in_ok-want_dummies.ensures
-    ∙ ap (λ shards. before ++ outs_of_sayings e.keys (say_to_each (nodes_of_shards e.config.f shards) (message.Ask None))) (c.as_slice.ensures ∙ c.in_ok-shards.ensures))
+    ∙ ap (λ shards. before ++ outs_of_sayings e.keys (wants_in e.config e.dummy shards)) (c.as_slice.ensures ∙ c.in_ok-shards.ensures))
     h)
     c.provided.ensures.enters

@@ -1,7 +1,6 @@
-use Rattle.std.proofs.Common.{ℕ, List, Option, Err, inl, inr, refl, ap, subst}
+use Rattle.std.proofs.Common.{ℕ, List, Option, None, Err, inl, inr, refl, ap, subst}
 use Rattle.cs_io.specs.laws.Told.{stays-same}
 use Rattle.cs_deploy.proofs.Answered.{keeps, rose-later, cause-later}
-use Rattle.cs_deploy.proofs.Unknown.{knows-nothing}
 use Rattle.cs_deploy.specs.Client.{errand_of, TellsEnding}
 use Rattle.cs_deploy.proofs.Bound.{bound-later, placed-later, unbound-as}
 use Rattle.cs_deploy.proofs.Later.{attends-later}
@@ -31,13 +30,13 @@ returns-clause-goes g c =
 pub returns-in-Ok-bind_or_tell-clause-goes : goal.returns-in-Ok-bind_or_tell-clause-goes
 returns-in-Ok-bind_or_tell-clause-goes g c =
     let setup = c.args.setup in
-    let e = errand_of setup c.args.call c.args.session in
+    let e = errand_of setup c.args.call None None in
     let bound = c.in-Ok-bind_or_tell.ensures.binds in
     inr (inr (record {
       placed = placed-later c.args.hosts _ _ _ bound.placed c.attend.ensures.placed;
       bound = bound-later _ _ _ _ _ setup.site.base_port c.me-me.ensures bound.bound c.attend.ensures.bound;
       ending = c.attend.result;
-      attends = attends-later e c.args.until (g.L.Link.told c.args.link.now) (g.L.Link.told c.bind_or_tell.new.link) (g.L.Link.told c.attend.new.link) c.attend.result bound.quiet.left bound.quiet.offered bound.quiet.missed (c.attend.ensures.attends e c.in-Ok.ensures (knows-nothing e c.requires.formed));
+      attends = attends-later e c.args.until (g.L.Link.told c.args.link.now) (g.L.Link.told c.bind_or_tell.new.link) (g.L.Link.told c.attend.new.link) c.attend.result bound.quiet.left bound.quiet.offered bound.quiet.missed (c.attend.ensures.attends e c.in-Ok.ensures refl);
       failed = λ is. rose-later _ _ _ c.in-Ok-bind_or_tell.ensures.link (c.attend.ensures.cause.cause is);
       told = subst (λ (written : Option (List ℕ)). TellsEnding c.attend.result written (g.K.Sink.written c.tell_ending.new.out) c.tell_ending.result) bound.unwritten c.tell_ending.ensures.tells;
     }))

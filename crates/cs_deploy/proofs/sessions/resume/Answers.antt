@@ -10,7 +10,7 @@ pub returns-in-Ok-clause-goes : goal.returns-in-Ok-clause-goes
 returns-in-Ok-clause-goes g c =
     inr
     (subst
-    (λ (session : Option Session). Resumes c.args.setup c.args.call c.args.hosts c.args.until (Faulty g.L.Link.faults c.args.link.now c.resubmit.new.link) session (beside (g.L.Link.told c.args.link.now) (g.K.Sink.written c.args.out.now)) (beside (g.L.Link.told c.resubmit.new.link) (g.K.Sink.written c.resubmit.new.out)) c.resubmit.result)
+    (λ (session : Option Session). Resumes c.args.setup c.args.call c.args.hosts c.args.details c.args.until (Faulty g.L.Link.faults c.args.link.now c.resubmit.new.link) session (beside (g.L.Link.told c.args.link.now) (g.K.Sink.written c.args.out.now)) (beside (g.L.Link.told c.resubmit.new.link) (g.K.Sink.written c.resubmit.new.out)) c.resubmit.result)
     c.in-Ok.ensures.given c.resubmit.ensures.goes)
 
 pub returns-in-Err-clause-goes : goal.returns-in-Err-clause-goes

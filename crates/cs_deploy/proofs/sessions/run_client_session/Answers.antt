@@ -11,13 +11,13 @@ returns-in-Ok-clause-runs g c = inr ((c.in-Ok.both, c.in-Ok.hosts), c.in-Ok.ensu
 
 pub returns-in-Ok-clause-whole : goal.returns-in-Ok-clause-whole
 returns-in-Ok-clause-whole g c = λ stores links writes.
-    session-runs-decided c.args.site_name.now c.args.keys_name.now c.args.call_name.now (option_copied c.args.hosts_name) c.args.word.now c.args.until _ _ _ _ _ c.resume.result (returns-in-Ok-clause-runs g c) stores links
+    session-runs-decided c.args.site_name.now c.args.keys_name.now c.args.call_name.now (option_copied c.args.hosts_name) c.args.word.now c.args.details c.args.until _ _ _ _ _ c.resume.result (returns-in-Ok-clause-runs g c) stores links
     (λ six. writes (c.resume.ensures.write_fault.cause six))
 
 pub returns-in-Ok-clause-only : goal.returns-in-Ok-clause-only
 returns-in-Ok-clause-only g c = (
-  session-runs-other c.args.site_name.now c.args.keys_name.now c.args.call_name.now (option_copied c.args.hosts_name) c.args.word.now c.args.until _ _ _ _ _ c.resume.result 2 (returns-in-Ok-clause-runs g c) (λ is. absurd (cc)) (λ is. absurd (cc)) (λ is. absurd (cc)) (λ is. absurd (cc)) (λ is. absurd (cc)) (λ is. absurd (cc)) (λ is. absurd (cc)),
-  session-runs-other c.args.site_name.now c.args.keys_name.now c.args.call_name.now (option_copied c.args.hosts_name) c.args.word.now c.args.until _ _ _ _ _ c.resume.result 5 (returns-in-Ok-clause-runs g c) (λ is. absurd (cc)) (λ is. absurd (cc)) (λ is. absurd (cc)) (λ is. absurd (cc)) (λ is. absurd (cc)) (λ is. absurd (cc)) (λ is. absurd (cc)),
+  session-runs-other c.args.site_name.now c.args.keys_name.now c.args.call_name.now (option_copied c.args.hosts_name) c.args.word.now c.args.details c.args.until _ _ _ _ _ c.resume.result 2 (returns-in-Ok-clause-runs g c) (λ is. absurd (cc)) (λ is. absurd (cc)) (λ is. absurd (cc)) (λ is. absurd (cc)) (λ is. absurd (cc)) (λ is. absurd (cc)) (λ is. absurd (cc)),
+  session-runs-other c.args.site_name.now c.args.keys_name.now c.args.call_name.now (option_copied c.args.hosts_name) c.args.word.now c.args.details c.args.until _ _ _ _ _ c.resume.result 5 (returns-in-Ok-clause-runs g c) (λ is. absurd (cc)) (λ is. absurd (cc)) (λ is. absurd (cc)) (λ is. absurd (cc)) (λ is. absurd (cc)) (λ is. absurd (cc)) (λ is. absurd (cc)),
 )
 
 -- ---- one isn't
@@ -43,11 +43,11 @@ returns-in-Err-clause-runs g c = inl (record {
 
 pub returns-in-Err-clause-whole : goal.returns-in-Err-clause-whole
 returns-in-Err-clause-whole g c = λ stores links writes.
-    session-runs-decided c.args.site_name.now c.args.keys_name.now c.args.call_name.now (option_copied c.args.hosts_name) c.args.word.now c.args.until _ _ _ _ _ c.refuse.result (returns-in-Err-clause-runs g c) stores links
+    session-runs-decided c.args.site_name.now c.args.keys_name.now c.args.call_name.now (option_copied c.args.hosts_name) c.args.word.now c.args.details c.args.until _ _ _ _ _ c.refuse.result (returns-in-Err-clause-runs g c) stores links
     (λ six. writes (c.refuse.ensures.cause.cause six))
 
 pub returns-in-Err-clause-only : goal.returns-in-Err-clause-only
 returns-in-Err-clause-only g c = (
-  session-runs-other c.args.site_name.now c.args.keys_name.now c.args.call_name.now (option_copied c.args.hosts_name) c.args.word.now c.args.until _ _ _ _ _ c.refuse.result 2 (returns-in-Err-clause-runs g c) (λ is. absurd (cc)) (λ is. absurd (cc)) (λ is. absurd (cc)) (λ is. absurd (cc)) (λ is. absurd (cc)) (λ is. absurd (cc)) (λ is. absurd (cc)),
-  session-runs-other c.args.site_name.now c.args.keys_name.now c.args.call_name.now (option_copied c.args.hosts_name) c.args.word.now c.args.until _ _ _ _ _ c.refuse.result 5 (returns-in-Err-clause-runs g c) (λ is. absurd (cc)) (λ is. absurd (cc)) (λ is. absurd (cc)) (λ is. absurd (cc)) (λ is. absurd (cc)) (λ is. absurd (cc)) (λ is. absurd (cc)),
+  session-runs-other c.args.site_name.now c.args.keys_name.now c.args.call_name.now (option_copied c.args.hosts_name) c.args.word.now c.args.details c.args.until _ _ _ _ _ c.refuse.result 2 (returns-in-Err-clause-runs g c) (λ is. absurd (cc)) (λ is. absurd (cc)) (λ is. absurd (cc)) (λ is. absurd (cc)) (λ is. absurd (cc)) (λ is. absurd (cc)) (λ is. absurd (cc)),
+  session-runs-other c.args.site_name.now c.args.keys_name.now c.args.call_name.now (option_copied c.args.hosts_name) c.args.word.now c.args.details c.args.until _ _ _ _ _ c.refuse.result 5 (returns-in-Err-clause-runs g c) (λ is. absurd (cc)) (λ is. absurd (cc)) (λ is. absurd (cc)) (λ is. absurd (cc)) (λ is. absurd (cc)) (λ is. absurd (cc)) (λ is. absurd (cc)),
 )

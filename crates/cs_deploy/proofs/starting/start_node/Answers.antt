@@ -16,6 +16,9 @@ use Rattle.cs_deploy.proofs.starting.start_node.Goals as goal
 pub start-requires-clause-first : goal.start-requires-clause-first
 start-requires-clause-first c = c.requires.first
 
+pub start-requires-clause-version : goal.start-requires-clause-version
+start-requires-clause-version c = c.requires.version
+
 pub start-requires-clause-node : goal.start-requires-clause-node
 start-requires-clause-node c = c.requires.right
 

@@ -1,4 +1,4 @@
-use Rattle.std.proofs.Common.{None, Err, inl, inr, refl, ap, arith}
+use Rattle.std.proofs.Common.{Err, inl, inr, refl, ap, arith}
 use Rattle.cs_deploy.proofs.Answered.{keeps, rose-later, rose-sooner, cause-later}
 use Rattle.cs_io.specs.Outside.{beside}
 use Rattle.cs_io.specs.laws.Told.{stays-same}
@@ -6,6 +6,7 @@ use Rattle.cs_tries.specs.Tries.{try_begun}
 use Rattle.cs_deploy.specs.Client.{errand_of}
 use Rattle.cs_deploy.proofs.Bound.{bound-later, placed-later, unbound-as}
 use Rattle.cs_deploy.proofs.Tried.{tries-later}
+use Rattle.cs_deploy.proofs.Unknown.{knows-nothing}
 use Rattle.cs_deploy.proofs.tries.try_call.Goals as goal
 
 pub returns-in_default-clause-goes : goal.returns-in_default-clause-goes
@@ -32,7 +33,7 @@ returns-clause-goes g c =
 pub returns-in-Ok-bind_or_tell-clause-goes : goal.returns-in-Ok-bind_or_tell-clause-goes
 returns-in-Ok-bind_or_tell-clause-goes g c =
     let setup = c.args.setup in
-    let e = errand_of setup c.args.call None in
+    let e = errand_of setup c.args.call c.args.session c.args.wishes.dummy in
     let bound = c.in-Ok-bind_or_tell.ensures.binds in
     let new = beside (g.L.Link.told c.attend_tries-ending.new.link) (g.K.Sink.written c.attend_tries-ending.new.out) in
     inr (inr (record {
@@ -41,8 +42,8 @@ returns-in-Ok-bind_or_tell-clause-goes g c =
       ending = c.attend_tries-ending.result;
       written = g.K.Sink.written c.attend_tries-ending.new.out;
       attends =
-          tries-later (try_begun e c.args.tries) c.args.until (g.L.Link.told c.args.link.now) (g.L.Link.told c.bind_or_tell.new.link) (g.K.Sink.written c.args.out.now) (g.K.Sink.written c.bind_or_tell.new.out) new c.attend_tries-ending.result
-          bound.quiet.left bound.quiet.offered bound.quiet.missed bound.unwritten (c.attend_tries-ending.ensures.attends e c.in-Ok.ensures refl);
+          tries-later (try_begun c.args.wishes.details e c.args.wishes.tries) c.args.until (g.L.Link.told c.args.link.now) (g.L.Link.told c.bind_or_tell.new.link) (g.K.Sink.written c.args.out.now) (g.K.Sink.written c.bind_or_tell.new.out) new c.attend_tries-ending.result
+          bound.quiet.left bound.quiet.offered bound.quiet.missed bound.unwritten (c.attend_tries-ending.ensures.attends e c.in-Ok.ensures (knows-nothing e c.requires.formed));
       failed = λ is. rose-later _ _ _ c.in-Ok-bind_or_tell.ensures.link (c.attend_tries-ending.ensures.link.cause is);
       told = c.tell_tries.ensures.tells;
     }))

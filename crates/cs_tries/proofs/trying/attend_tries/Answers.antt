@@ -1,4 +1,4 @@
-use Rattle.std.proofs.Common.{◌≡◌, Err, sym, ap, subst, arith}
+use Rattle.std.proofs.Common.{◌≡◌, Err, refl, sym, ap, subst, arith}
 use Rattle.std.proofs.lemmas.Bool.{iff_false}
 use Rattle.cs_io.specs.Outside.{beside}
 use Rattle.cs_io.specs.laws.Told.{stays-same, stays-both}
@@ -16,7 +16,7 @@ pub loop-buf-init : goal.loop-buf-init
 loop-buf-init g c = record {
   goes = λ e stands open_yet.
       let a = beside (g.L.Link.told c.args.link.now) (g.K.Sink.written c.args.out.now) in
-      subst (λ (client : Client). TriesSoFar (try_begun e c.args.tries) c.args.until 0 0 a a (client, c.args.tries)) (sym c.client.view_is) (tries-begin e c.args.tries c.args.until a c.args.client stands open_yet);
+      subst (λ (client : Client). TriesSoFar (try_begun c.args.details e c.args.tries) c.args.until 0 0 a a (client, c.args.tries)) (sym c.client.view_is) (tries-begin c.args.details e c.args.tries c.args.until a c.args.client stands open_yet);
   few = omega arith;
   bound = stays-same (g.L.Link.told c.args.link.now).bound;
   placed = stays-same (g.L.Link.told c.args.link.now).placed;
@@ -30,7 +30,7 @@ loop-buf-preserved g c =
     let turn = c.in-Ok-take_turn.ensures in
     record {
       goes = λ e stands open_yet.
-          tries-go-on (try_begun e c.args.tries) c.args.until c.loop-buf.turns c.loop-buf.ticks
+          tries-go-on (try_begun c.args.details e c.args.tries) c.args.details refl c.args.until c.loop-buf.turns c.loop-buf.ticks
           (beside (g.L.Link.told c.args.link.now) (g.K.Sink.written c.args.out.now))
           (beside (g.L.Link.told c.loop-buf.link) (g.K.Sink.written c.loop-buf.out))
           (beside (g.L.Link.told c.take_turn.new.link) (g.K.Sink.written c.take_turn.new.out))
@@ -50,11 +50,11 @@ overflow_add-ticks g c =
 
 pub returns-in_default-clause-attends : goal.returns-in_default-clause-attends
 returns-in_default-clause-attends g c = λ e stands open_yet.
-    tries-nothing (try_begun e c.args.tries) c.args.until (beside (g.L.Link.told c.args.link.now) (g.K.Sink.written c.args.out.now))
+    tries-nothing (try_begun c.args.details e c.args.tries) c.args.until (beside (g.L.Link.told c.args.link.now) (g.K.Sink.written c.args.out.now))
 
 pub returns-in-Err-clause-attends : goal.returns-in-Err-clause-attends
 returns-in-Err-clause-attends g c = λ e stands open_yet.
-    tries-end (try_begun e c.args.tries) c.args.until c.loop-buf.turns c.loop-buf.ticks
+    tries-end (try_begun c.args.details e c.args.tries) c.args.details refl c.args.until c.loop-buf.turns c.loop-buf.ticks
     (beside (g.L.Link.told c.args.link.now) (g.K.Sink.written c.args.out.now))
     (beside (g.L.Link.told c.loop-buf.link) (g.K.Sink.written c.loop-buf.out))
     (beside (g.L.Link.told c.take_turn.new.link) (g.K.Sink.written c.take_turn.new.out))
@@ -80,7 +80,7 @@ returns-in-Err-clause-sink g c =
 
 pub returns-clause-attends : goal.returns-clause-attends
 returns-clause-attends g c = λ e stands open_yet.
-    tries-over (try_begun e c.args.tries) c.args.until c.loop-buf.turns c.loop-buf.ticks
+    tries-over (try_begun c.args.details e c.args.tries) c.args.until c.loop-buf.turns c.loop-buf.ticks
     (beside (g.L.Link.told c.args.link.now) (g.K.Sink.written c.args.out.now))
     (beside (g.L.Link.told c.loop-buf.link) (g.K.Sink.written c.loop-buf.out))
     (c.loop-buf.client, c.loop-buf.tries) (c.is_over.ensures.over.0 c.loop-buf-test.false)

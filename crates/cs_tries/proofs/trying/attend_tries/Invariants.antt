@@ -12,7 +12,7 @@ use Rattle.cs_tries.proofs.trying.attend_tries.Given as goal
 abbrev pub invariant-loop-buf : goal.invariant-loop-buf
 invariant-loop-buf g l = record {
   goes : (e : Errand) → ClientStandsFor e [] l.fn.client → knows e [] ≡ known.Open
-      → TriesSoFar (try_begun e l.fn.tries) l.until l.turns l.ticks (beside (g.L.Link.told l.initial.link) (g.K.Sink.written l.initial.out)) (beside (g.L.Link.told l.link) (g.K.Sink.written l.out)) (l.client, l.tries);
+      → TriesSoFar (try_begun l.details e l.fn.tries) l.until l.turns l.ticks (beside (g.L.Link.told l.initial.link) (g.K.Sink.written l.initial.out)) (beside (g.L.Link.told l.link) (g.K.Sink.written l.out)) (l.client, l.tries);
   few : l.ticks ≤ l.turns;
   bound : Stays (g.L.Link.told l.initial.link).bound (g.L.Link.told l.link).bound;
   placed : Stays (g.L.Link.told l.initial.link).placed (g.L.Link.told l.link).placed;

@@ -8,23 +8,23 @@ pub try_again-requires : goal.try_again-requires
 try_again-requires g c = ap (may_follow c.args.tries) (sym c.number.ensures) ∙ (sym c.may_follow.ensures ∙ c.if-may_follow.true)
 
 pub returns-then-may_follow-clause-goes : goal.returns-then-may_follow-clause-goes
-returns-then-may_follow-clause-goes g c = λ t stands left is.
+returns-then-may_follow-clause-goes g c = λ t stands detailed left is.
     next-goes t c.args.digest c.try_again.result
     (follows t c.args.client c.args.tries c.number.result (sym c.if-may_follow.true ∙ c.may_follow.ensures) c.number.ensures stands.errand_is left)
-    (c.try_again.ensures.goes t stands left)
+    (c.try_again.ensures.goes t stands detailed left)
 
 pub returns-then-may_follow-clause-printed : goal.returns-then-may_follow-clause-printed
-returns-then-may_follow-clause-printed g c = λ t stands left.
+returns-then-may_follow-clause-printed g c = λ t stands detailed left.
     next-printed t c.args.digest (g.K.Sink.written c.args.out.now) (g.K.Sink.written c.try_again.new.out) c.try_again.result
     (follows t c.args.client c.args.tries c.number.result (sym c.if-may_follow.true ∙ c.may_follow.ensures) c.number.ensures stands.errand_is left)
     c.try_again.ensures.printed
 
 pub returns-else-may_follow-clause-goes : goal.returns-else-may_follow-clause-goes
-returns-else-may_follow-clause-goes g c = λ t stands left is.
+returns-else-may_follow-clause-goes g c = λ t stands detailed left is.
     last-goes t c.args.digest
     (follows-not t c.args.client c.args.tries c.number.result (sym c.if-may_follow.false ∙ c.may_follow.ensures) c.number.ensures stands.errand_is left) is
 
 pub returns-else-may_follow-clause-printed : goal.returns-else-may_follow-clause-printed
-returns-else-may_follow-clause-printed g c = λ t stands left.
+returns-else-may_follow-clause-printed g c = λ t stands detailed left.
     last-printed t c.args.digest (g.K.Sink.written c.args.out.now) (known.Aborted c.args.digest)
     (follows-not t c.args.client c.args.tries c.number.result (sym c.if-may_follow.false ∙ c.may_follow.ensures) c.number.ensures stands.errand_is left)

@@ -12,8 +12,8 @@ invariant_of-result c =
     let i = c.as_slice.result.now in
     let r = c.as_slice-2.result.now in
     record {
-      told_fits = subst (ToldFits config) (sym c.in_ok-beliefs.ensures) (unheard-fits config i r);
-      told_marked = subst (ToldMarked config.f) (sym c.in_ok-beliefs.ensures) (unheard-marked config i r);
+      told_fits = subst (ToldFits config) (sym c.in_ok-beliefs.ensures) (unheard-fits config c.self.inside.errand.dummy i r);
+      told_marked = subst (ToldMarked config.f) (sym c.in_ok-beliefs.ensures) (unheard-marked config c.self.inside.errand.dummy i r);
       phase_fits = tt;
     }
 
@@ -26,8 +26,8 @@ returns c = λ e inputs stands.
       keeps = record {
         told_is =
             c.in_ok-beliefs.ensures
-            ∙ (ap (λ names. unheard config names c.as_slice-2.result.now) c.as_slice.ensures
-            ∙ (ap (unheard config c.self.inside.errand.call.inputs) c.as_slice-2.ensures
+            ∙ (ap (λ names. unheard config c.self.inside.errand.dummy names c.as_slice-2.result.now) c.as_slice.ensures
+            ∙ (ap (unheard config c.self.inside.errand.dummy c.self.inside.errand.call.inputs) c.as_slice-2.ensures
             ∙ sym (nothing-told (errand_again c.self.inside.errand))
             ∙ ap (λ (k : Errand). told_by_inputs k []) (ap errand_again same)));
         phase_is = refl;

@@ -11,22 +11,22 @@ invariant_of-result c =
     let i = c.as_slice.result.now in
     let r = c.as_slice-2.result.now in
     record {
-      told_fits = subst (ToldFits config) (sym c.in_ok-beliefs.ensures) (unheard-fits config i r);
-      told_marked = subst (ToldMarked config.f) (sym c.in_ok-beliefs.ensures) (unheard-marked config i r);
+      told_fits = subst (ToldFits config) (sym c.in_ok-beliefs.ensures) (unheard-fits config c.args.dummy i r);
+      told_marked = subst (ToldMarked config.f) (sym c.in_ok-beliefs.ensures) (unheard-marked config c.args.dummy i r);
       phase_fits = c.in_ok-phase.ensures.fits;
     }
 
 pub returns : goal.returns
 returns c =
     let config = c.args.site.config in
-    let e = errand_with c.args.site c.args.keys c.args.book c.args.call c.args.session in
+    let e = errand_with c.args.site c.args.keys c.args.book c.args.call c.args.session c.args.dummy in
     record {
       errand_is = refl;
       keeps = record {
         told_is =
             c.in_ok-beliefs.ensures
-            ∙ (ap (λ names. unheard config names c.as_slice-2.result.now) c.as_slice.ensures
-            ∙ (ap (unheard config c.args.call.inputs) c.as_slice-2.ensures
+            ∙ (ap (λ names. unheard config c.args.dummy names c.as_slice-2.result.now) c.as_slice.ensures
+            ∙ (ap (unheard config c.args.dummy c.args.call.inputs) c.as_slice-2.ensures
             ∙ sym (nothing-told e)));
         phase_is = c.in_ok-phase.ensures.phase;
         heard = first-heard e c.in_ok-phase.phase c.in_ok-phase.ensures.fresh;
