@@ -19,7 +19,7 @@ use Rattle.cs_serve.specs.declared.receiving.TheConstants.{MOST_MISSED}
 use Rattle.cs_serve.specs.declared.client_ending.Ending.{Ending}
 use Rattle.cs_serve.specs.declared.client_ending.Ending.TheVariants.{Knows, Refused, LinkFault, Memory}
 use Rattle.cs_tries.specs.declared.ending.TryEnding.{TryEnding}
-use Rattle.cs_tries.specs.declared.ending.TryEnding.TheVariants.{Ended, Told, WriteFault}
+use Rattle.cs_tries.specs.declared.ending.TryEnding.TheVariants.{Ended, Told, Waits, WriteFault}
 use Rattle.cs_serve.specs.Attending.{missed_past}
 use Rattle.cs_tries.specs.Trying.{TriesRefused, TriesCut, TriesEnd, AttendsTries}
 use Rattle.cs_deploy.specs.declared.setups.Setup.{Setup}
@@ -28,7 +28,7 @@ use Rattle.cs_deploy.specs.Hosts.{ClientFilesCome}
 use Rattle.cs_deploy.specs.Untaken.{IsDecided}
 use Rattle.cs_deploy.specs.Binding.{link_answer}
 use Rattle.cs_deploy.specs.Client.{known_status, known_answer, refused_answer, TellsEnding, IsToldOf}
-use Rattle.cs_deploy.specs.Tries.{TellsTryEnding, judged, fault_answer, TriesGo, TriesGoBy, TriesRun}
+use Rattle.cs_deploy.specs.Tries.{waits_answer, TellsTryEnding, judged, fault_answer, TriesGo, TriesGoBy, TriesRun}
 use Rattle.cs_deploy.proofs.Answered.{answers-other}
 use Rattle.cs_deploy.proofs.Decided.{told-of, known-other, runs-decided, runs-other}
 use Rattle.cs_deploy.proofs.Later.{gives-later}
@@ -62,6 +62,7 @@ tries-later first until a b w w' c ending stays kept same unwritten attends = re
         (missing ∙ ap (λ n. min (missed_past n inputs + MOST_MISSED) (2 ^ 64 - 1)) same, is, gives-later a b w w' c kept unwritten _ _ gives)
     by (Ended Memory) inputs ends = cut inputs ends
     by (Told digest) inputs (is, gives) = (is, gives-later a b w w' c kept unwritten _ _ gives)
+    by (Waits text) inputs (is, lines, over, gives) = (is, lines, over, gives-later a b w w' c kept unwritten _ _ gives)
     by WriteFault inputs ends = cut inputs ends
 
 module _ (setup : Setup) (call : CallFile) (session : Option Session) (hosts : Option Hosts) (wishes : Wishes) (until : Until) (Failed : Type 0) (old new : Beside LinkTold) (status : ℕ) where
@@ -77,6 +78,7 @@ module _ (setup : Setup) (call : CallFile) (session : Option Session) (hosts : O
       by (Ended LinkFault) failed tells = absurd (links (failed refl))
       by (Ended Memory) failed tells = absurd (other tells.0)
       by (Told digest) failed tells = inl tells.0
+      by (Waits text) failed tells = inr (inl (tells.verdict writes other).0)
       by WriteFault failed tells = absurd (writes tells.0)
 
   pub tries-other : (fault : Option CallFault) (n : ℕ) → TriesGoBy fault setup call session hosts wishes until Failed old new status → 0 ≢ n → 10 ≢ n → 3 ≢ n → 7 ≢ n → 6 ≢ n → 8 ≢ n → status ≢ n
@@ -91,6 +93,7 @@ module _ (setup : Setup) (call : CallFile) (session : Option Session) (hosts : O
       by (Ended LinkFault) tells = answers-other link_answer is.written new.written status n tells seven six eight
       by (Ended Memory) tells = λ p. eight (sym tells.0 ∙ p)
       by (Told digest) tells = λ p. zero (sym tells.0 ∙ p)
+      by (Waits text) tells = answers-other (waits_answer text) is.written new.written status n tells ten six eight
       by WriteFault tells = λ p. six (sym tells.0 ∙ p)
 
 module _ (site keys call : List ℕ) (hosts : Option (List ℕ)) (wishes : Wishes) (until : Until) (Failed Linked : Type 0) (files : Option Files) (old new : Beside LinkTold) (status : ℕ) where

@@ -17,7 +17,7 @@ use Rattle.cs_client.specs.declared.errand.Errand.{Errand}
 use Rattle.cs_tries.specs.Tries.{try_begun}
 use Rattle.cs_serve.specs.declared.client_ending.Ending.TheVariants.{LinkFault}
 use Rattle.cs_tries.specs.declared.ending.TryEnding.{TryEnding}
-use Rattle.cs_tries.specs.declared.ending.TryEnding.TheVariants.{Ended, Told, WriteFault}
+use Rattle.cs_tries.specs.declared.ending.TryEnding.TheVariants.{Ended, Told, Waits, WriteFault}
 use Rattle.cs_tries.specs.Trying.{AttendsTries}
 use Rattle.cs_deploy.specs.declared.setups.Setup.{Setup}
 use Rattle.cs_deploy.specs.declared.wishes.Wishes.{Wishes}
@@ -25,10 +25,15 @@ use Rattle.cs_deploy.specs.Hosts.{ClientFilesCome}
 use Rattle.cs_deploy.specs.Binding.{IsUntouched, IsToldHosts, IsShort, IsUnbound, Runs}
 use Rattle.cs_deploy.specs.Client.{TellsEnding, errand_of}
 
+-- what is printed of a client that knows nothing
+abbrev pub waits_answer : List ℕ → Answer
+waits_answer text = record { status = 10; printed = text }
+
 -- what is printed behind the lines of the tries that others followed, and the status
 abbrev pub TellsTryEnding : TryEnding → Option (List ℕ) → Option (List ℕ) → ℕ → Type 0
 TellsTryEnding (Ended ending) written written' status = TellsEnding ending written written' status
 TellsTryEnding (Told digest) written written' status = (status ≡ 0) × Keeps written written'
+TellsTryEnding (Waits text) written written' status = Answers (waits_answer text) written written' status
 TellsTryEnding WriteFault written written' status = (status ≡ 6) × Keeps written written'
 
 -- The link is told where all are and bound as the client of these keys, and so many tries are made at most.

@@ -27,8 +27,8 @@ use std::alloc::Global;
 /// Runs the client of a site file, a key file and a call file for so long at most, where a hosts
 /// file says if one is named, and makes its call again after it was aborted, under the next number,
 /// as often as it is asked for. With details it first tells what is wrong with the call by its file alone;
-/// it prints each session before it is submitted, and of one that is accepted the transaction. It
-/// answers the status of the last try.
+/// it prints each session before it is submitted, of one that is accepted the transaction, and of
+/// one of which it knows nothing what it waits for. It answers the status of the last try.
 pub fn run_client_tries<E: Store, L: Link, K: Sink>(
     alloc: Global,
     site_name: &str,
@@ -151,6 +151,7 @@ fn tell_tries<K: Sink>(alloc: Global, ending: TryEnding, out: &mut K) -> u8
     match ending {
         TryEnding::Ended(ending) => tell_ending(alloc, ending, out),
         TryEnding::Told(_) => 0,
+        TryEnding::Waits(text) => tell(out, text.as_str().as_bytes(), 10),
         TryEnding::WriteFault => 6,
     }
 }

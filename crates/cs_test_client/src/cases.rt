@@ -27,8 +27,9 @@ pub(crate) enum Word {
     Coin(i64),
     SharedCoin(i64),
     Read(i64),
-    // The coin isn't active.
+    // The coin isn't active; a session of this byte used it up.
     NoCoin,
+    UsedCoin(u8),
     // The dummy of a shard with this serial is active, or isn't.
     Dummy(u16, u64),
     NoDummy(u16, u64),
@@ -212,6 +213,7 @@ fn told(alloc: Global, case: &Case, word: Word) -> Result<Message, Memory> {
     let (key, state) = match word {
         Word::Coin(worth) => (Key::Object(case.name), active(alloc, worth)?),
         Word::SharedCoin(worth) => (Key::Object(case.name), shared(alloc, worth)?),
+        Word::UsedCoin(byte) => (Key::Object(case.name), State::Inactive([byte; 32])),
         Word::Read(worth) => (Key::Object(READ), active(alloc, worth)?),
         Word::Dummy(shard, serial) => (Key::Dummy(shard, serial), active(alloc, 1)?),
         Word::NoDummy(shard, serial) => (Key::Dummy(shard, serial), State::Unknown),

@@ -9,3 +9,5 @@ mod client_tests;
 mod show_tests;
 #[cfg(test)]
 mod tries_tests;
+#[cfg(test)]
+mod waits_tests;

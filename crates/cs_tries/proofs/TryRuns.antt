@@ -1,5 +1,5 @@
 -- How the run of a client goes on from try to try, and how it ends.
-use Rattle.std.proofs.Common.{◌≡◌, ◌≢◌, ℕ, ◌+◌, ◌-◌, ◌^◌, ◌≤◌, inl, inr, Bool, true, false, List, [], ◌∷◌, ◌++◌, length, Option, Some, Result, Ok, Err, refl, sym, ap, subst, ◌∙◌, arith, append-nil, if◌then◌else◌}
+use Rattle.std.proofs.Common.{◌≡◌, ℕ, ◌+◌, ◌-◌, ◌^◌, ◌⊎◌, inl, inr, Bool, true, false, List, [], ◌∷◌, ◌++◌, length, Option, Some, None, Result, Ok, Err, refl, sym, ap, subst, ◌∙◌, arith, append-nil, append_assoc, if◌then◌else◌}
 use Rattle.std.specs.Prelude.{min, count_by, is_none, ◌&&◌}
 use Rattle.std.specs.Int.{from_bool}
 use Rattle.std.specs.Io.KnownBytes.{Appends}
@@ -16,7 +16,6 @@ use Rattle.cs_io.specs.Outside.{LinkTold, Beside, beside}
 use Rattle.cs_io.specs.Until.{IsOver, AreNeeded}
 use Rattle.cs_io.specs.declared.until.Until.{Until}
 use Rattle.cs_io.specs.laws.Told.{stays-same, stays-both}
-use Rattle.cs_proc.specs.declared.error.ProcError.{ProcError}
 use Rattle.cs_wire.specs.declared.input.Out.{Out}
 use Rattle.cs_client.specs.declared.known.Known.{Known}
 use Rattle.cs_client.specs.declared.known.Known.TheVariants as known
@@ -27,22 +26,27 @@ use Rattle.cs_client.specs.Knowing.{knows}
 use Rattle.cs_client.specs.Lines.{known_line}
 use Rattle.cs_client.specs.Sayings.{says_at, outs_of_sayings}
 use Rattle.cs_client.specs.Seen.{Client}
-use Rattle.cs_client.specs.Standing.{errand_again, ClientStandsFor, MethodIsRefused}
+use Rattle.cs_client.specs.Standing.{errand_again, ClientStandsFor}
+use Rattle.cs_waits.specs.declared.noted.NotedClient.{NotedClient}
+use Rattle.cs_waits.specs.Standing.{NotedStandsFor}
 use Rattle.cs_details.specs.Lines.{session_line, tx_lines}
 use Rattle.cs_tries.specs.Tries.{Try, try_begun, may_follow, has_next, with_input, known_in_try, then_next, moved_on, try_after, announcement, newly, line_before, lines_accepted, line_between, line_behind, lines_in, phase_in_try}
 use Rattle.cs_serve.specs.declared.receiving.TheConstants.{MOST_MISSED}
-use Rattle.cs_serve.specs.declared.client_ending.Ending.{Ending}
 use Rattle.cs_serve.specs.declared.client_ending.Ending.TheVariants.{Knows, Refused, LinkFault, Memory}
 use Rattle.cs_tries.specs.declared.ending.TryEnding.{TryEnding}
-use Rattle.cs_tries.specs.declared.ending.TryEnding.TheVariants.{Ended, Told, WriteFault}
+use Rattle.cs_tries.specs.declared.ending.TryEnding.TheVariants.{Ended, Told, Waits, WriteFault}
 use Rattle.cs_serve.specs.Offering.{offers_in, AddsOffers, AddsFront}
 use Rattle.cs_serve.specs.Giving.{Gives}
-use Rattle.cs_serve.specs.Attending.{is_tick, ClientTakes, offers_at, missed_past, HasNone, HasFailed}
-use Rattle.cs_tries.specs.Trying.{offers_in_tries, GivesTries, WasOpenInTries, TriesEnd, AttendsTries, Going, GoesOnAs, GoesBehind, PrintsBehind, GivenBy, TryGoesBy, TryAnswers, TryTakesTurn, TriesCut, GivesPart, unwritten}
-use Rattle.cs_serve.specs.laws.Offering.{adds-none, adds-still, adds-later, front-all, front-later}
+use Rattle.cs_serve.specs.Attending.{is_tick, ClientTakes, offers_at, InputsAreOver, missed_past}
+use Rattle.cs_tries.specs.Trying.{offers_in_tries, GivesTries, WasOpenInTries, TriesEnd, AttendsTries, Going, GoesOnAs, GoesBehind, PrintsBehind, GivenBy, TryGoesBy, TryAnswers, TryTakesTurn, TriesCut, GivesPart, EndsOpen, HasNoTurn, unwritten}
+use Rattle.cs_serve.specs.laws.Offering.{adds-still, adds-later, front-all, front-later}
 use Rattle.cs_serve.specs.laws.Taken.{ticks-more, over-by, still-by}
-use Rattle.cs_serve.proofs.Giving.{AppendsFront-none, Gives-nil, Gives-more}
+use Rattle.cs_serve.proofs.Giving.{AppendsFront-all, AppendsFront-none, Gives-nil, Gives-more}
 use Rattle.cs_serve.proofs.Told.{takes-none, takes-still, takes-more, takes-one}
+
+-- the client of one that may keep notes
+pub at-client : (t : Try) (client : Client) (noted : NotedClient) → client ≡ noted.client → NotedStandsFor t.errand t.details t.inputs noted → ClientStandsFor t.errand t.inputs client
+at-client t client noted is stands = subst (ClientStandsFor t.errand t.inputs) (sym is) stands.client
 
 -- ---- behind what is known of a try
 
@@ -61,9 +65,9 @@ module _ (t : Try) where
   abbrev told-text : List ℕ → List ℕ
   told-text digest = known_line (known.Accepted digest) ++ option_map_or (λ (x : Session). tx_lines t.errand.config x.tx) (submitted (phase_in_try t)) []
 
-  pub open-goes : (client : Client) (tries : ℕ) → known_in_try t ≡ known.Open → ClientStandsFor t.errand t.inputs client → tries ≡ t.tries → GoesBehind (then_next (known_in_try t) t) (Ok (client, tries))
-  open-goes client tries open_yet stands left =
-      subst (λ (u : Try). GoesOnAs u (client, tries)) (sym (ap (λ (k : Known). then_next k t) open_yet)) (record { stands = stands; tries_are = left; unknown = open_yet })
+  pub open-goes : (noted : NotedClient) (tries : ℕ) → known_in_try t ≡ known.Open → NotedStandsFor t.errand t.details t.inputs noted → tries ≡ t.tries → GoesBehind (then_next (known_in_try t) t) (Ok (noted, tries))
+  open-goes noted tries open_yet stands left =
+      subst (λ (u : Try). GoesOnAs u (noted, tries)) (sym (ap (λ (k : Known). then_next k t) open_yet)) (record { stands = stands; tries_are = left; unknown = open_yet })
 
   pub open-printed : (written : Option (List ℕ)) (going : Going) → known_in_try t ≡ known.Open → PrintsBehind (line_between (known_in_try t) t) written written (Ok going)
   open-printed written going open_yet =
@@ -102,8 +106,8 @@ module _ (t : Try) where
       subst (λ (line : List ℕ). Appends written written line) (sym (ap (λ (b : Bool). if b then known_line (known.Aborted digest) else []) may)) (Appends-nil written)
 
   -- it begins without inputs
-  pub begun-goes : (client : Client) (tries : ℕ) → ClientStandsFor (errand_again t.errand) [] client → tries ≡ t.tries - 1 → GoesBehind next (Ok (client, tries))
-  begun-goes client tries stands left = record { stands = stands; tries_are = left; unknown = refl }
+  pub begun-goes : (noted : NotedClient) (tries : ℕ) → NotedStandsFor (errand_again t.errand) t.details [] noted → tries ≡ t.tries - 1 → GoesBehind next (Ok (noted, tries))
+  begun-goes noted tries stands left = record { stands = stands; tries_are = left; unknown = refl }
 
 -- ---- what is given at an input
 
@@ -134,6 +138,7 @@ given-by offers before behind a b w m w' (Err (Ended (Refused cause))) first add
 given-by offers before behind a b w m w' (Err (Ended LinkFault)) first adds printed = record { offered = adds; written = Appends-trans w m w' before behind first printed }
 given-by offers before behind a b w m w' (Err (Ended Memory)) first adds printed = inr (record { between = m; announced = first; offered = front-all a.offered b.offered offers adds; written = printed })
 given-by offers before behind a b w m w' (Err (Told digest)) first adds printed = record { offered = adds; written = Appends-trans w m w' before behind first printed }
+given-by offers before behind a b w m w' (Err (Waits text)) first adds printed = record { offered = adds; written = Appends-trans w m w' before behind first printed }
 given-by offers before behind a b w m w' (Err WriteFault) first adds printed = inr (record { between = m; announced = first; offered = front-all a.offered b.offered offers adds; written = printed })
 
 -- memory ran out while what is said was offered
@@ -168,13 +173,13 @@ abbrev err-of : {A : Type 0} → TryEnding → Result A TryEnding → TryEnding
 err-of other (Ok x) = other
 err-of other (Err ending) = ending
 
-inside-err : {A : Type 0} (ending : TryEnding) → (let r : Result A TryEnding = Err ending in r ≡ Err WriteFault) → ending ≡ WriteFault
-inside-err {A} ending failed = ap (λ (r : Result A TryEnding). err-of ending r) failed
+pub same-ending : (A : Type 0) (x y : TryEnding) → (let r : Result A TryEnding = Err x in r ≡ Err y) → x ≡ y
+same-ending A x y same = ap (λ (r : Result A TryEnding). err-of x r) same
 
 pub unwritten-sink : (A : Type 0) (a b : ℕ) (error : WriteError) (ending : TryEnding) → ending ≡ unwritten error → HasCause a b (FailedWrite error)
     → HasCause a b (let r : Result A TryEnding = Err ending in r ≡ Err WriteFault)
 unwritten-sink A a b error ending is cause =
-    record { later = cause.later; cause = λ failed. cause.cause (failed-write error (sym is ∙ inside-err {A = A} ending failed)) }
+    record { later = cause.later; cause = λ failed. cause.cause (failed-write error (sym is ∙ same-ending A ending WriteFault failed)) }
 
 -- memory ran out before anything was given
 pub none-given : (offers : Offers) (before behind : List ℕ) (a : Beside LinkTold) → GivesPart offers before behind a a
@@ -194,6 +199,7 @@ said-goes t input announcing outs old new result announces is goes given =
     by (Err (Ended LinkFault)) goes given = (goes, given)
     by (Err (Ended Memory)) goes given = (goes, given)
     by (Err (Told digest)) goes given = (goes, given)
+    by (Err (Waits text)) goes given = (goes, given)
     by (Err WriteFault) goes given = (goes, given)
 
 -- a link that takes an input was offered nothing
@@ -213,6 +219,7 @@ module _ (a b : LinkTold) (w : Option (List ℕ)) (c : Beside LinkTold) (stays :
   goes-later t input (Err (Ended LinkFault)) (goes, given) = absurd goes
   goes-later t input (Err (Ended Memory)) (goes, given) = (goes, part-later _ _ _ given)
   goes-later t input (Err (Told digest)) (goes, given) = (goes, gives-later _ _ given)
+  goes-later t input (Err (Waits text)) (goes, given) = (goes, gives-later _ _ given)
   goes-later t input (Err WriteFault) (goes, given) = (goes, part-later _ _ _ given)
 
 -- ---- one turn
@@ -228,7 +235,7 @@ try-answered t input a b c w w' result gone missed offered left same goes = reco
 }
 
 -- and the run goes on
-pub try-on : (t : Try) (input : ClientInput) (a b c : LinkTold) (w w' : Option (List ℕ)) (client : Client) (tries : ℕ) (ticked : Bool) → ticked ≡ is_tick input → Changes (λ (before now : List ClientInput). before ≡ input ∷ now) a.left b.left → b.missed ≡ 0
+pub try-on : (t : Try) (input : ClientInput) (a b c : LinkTold) (w w' : Option (List ℕ)) (client : NotedClient) (tries : ℕ) (ticked : Bool) → ticked ≡ is_tick input → Changes (λ (before now : List ClientInput). before ≡ input ∷ now) a.left b.left → b.missed ≡ 0
     → Stays a.offered b.offered → Stays b.left c.left → c.missed ≡ b.missed → TryGoesBy t input (beside b w) (beside c w') (Ok (client, tries)) → TryTakesTurn t (beside a w) (beside c w') (Ok (client, tries, ticked))
 try-on t input a b c w w' client tries ticked is gone missed offered left same goes = (
   record {
@@ -242,14 +249,23 @@ try-on t input a b c w w' client tries ticked is gone missed offered left same g
 
 -- and that ended the run
 pub try-ended : (t : Try) (a c : Beside LinkTold) (ending : TryEnding) → TryAnswers t a c (Err ending) → TryTakesTurn t a c (Err ending)
-try-ended t a c (Ended (Knows known.Open)) one = absurd (one.goes.0.1 refl)
-try-ended t a c (Ended (Knows (known.Accepted digest))) one = one
-try-ended t a c (Ended (Knows (known.Aborted digest))) one = one
-try-ended t a c (Ended (Refused cause)) one = one
+try-ended t a c (Ended (Knows so)) one = inl one
+try-ended t a c (Ended (Refused cause)) one = inl one
 try-ended t a c (Ended LinkFault) one = absurd one.goes.0
-try-ended t a c (Ended Memory) one = one
-try-ended t a c (Told digest) one = one
-try-ended t a c WriteFault one = one
+try-ended t a c (Ended Memory) one = inl one
+try-ended t a c (Told digest) one = inl one
+try-ended t a c (Waits text) one = inl one
+try-ended t a c WriteFault one = inl one
+
+-- no input was left
+pub try-none : (t : Try) (a c : Beside LinkTold) (ending : TryEnding) → HasNoTurn t a c ending → TryTakesTurn t a c (Err ending)
+try-none t a c (Ended (Knows so)) none = inr none
+try-none t a c (Ended (Refused cause)) none = inr none
+try-none t a c (Ended LinkFault) none = absurd none.ends
+try-none t a c (Ended Memory) none = inr none
+try-none t a c (Told digest) none = inr none
+try-none t a c (Waits text) none = inr none
+try-none t a c WriteFault none = inr none
 
 -- ---- so many turns
 
@@ -265,7 +281,7 @@ pub record TriesSoFar (first : Try) (until : Until) (turns ticks : ℕ) (old new
   pub missed : new.told.missed ≡ missed_past old.told.missed inputs
   pub gives : GivesTries first inputs old new
 
-pub tries-begin : (details : Bool) (e : Errand) (tries : ℕ) (until : Until) (a : Beside LinkTold) (client : Client) → ClientStandsFor e [] client → knows e [] ≡ known.Open → TriesSoFar (try_begun details e tries) until 0 0 a a (client, tries)
+pub tries-begin : (details : Bool) (e : Errand) (tries : ℕ) (until : Until) (a : Beside LinkTold) (client : NotedClient) → NotedStandsFor e details [] client → knows e [] ≡ known.Open → TriesSoFar (try_begun details e tries) until 0 0 a a (client, tries)
 tries-begin details e tries until a client stands open_yet = record {
   inputs = [];
   all = refl;
@@ -279,8 +295,8 @@ tries-begin details e tries until a client stands open_yet = record {
 }
 
 -- a turn, whatever came before
-abbrev pub TurnOf : Bool → Client → ℕ → Beside LinkTold → Beside LinkTold → Result (Client × ℕ × Bool) TryEnding → Type 0
-TurnOf details client tries old new result = (t : Try) → ClientStandsFor t.errand t.inputs client → details ≡ t.details → tries ≡ t.tries → TryTakesTurn t old new result
+abbrev pub TurnOf : Bool → NotedClient → ℕ → Beside LinkTold → Beside LinkTold → Result (NotedClient × ℕ × Bool) TryEnding → Type 0
+TurnOf details client tries old new result = (t : Try) → NotedStandsFor t.errand t.details t.inputs client → details ≡ t.details → tries ≡ t.tries → TryTakesTurn t old new result
 
 -- all tries of a run have details, or none
 same-details : (k : Known) (t : Try) → (then_next k t).details ≡ t.details
@@ -300,7 +316,7 @@ details-kept first (input ∷ past) =
 one-more : (input : ClientInput) (past : List ClientInput) (n : ℕ) → length past ≡ n → length (input ∷ past) ≡ n + 1
 one-more input past n is = omega arith
 
-pub tries-go-on : (first : Try) (details : Bool) (same : details ≡ first.details) (until : Until) (turns ticks : ℕ) (a b c : Beside LinkTold) (client later : Client) (tries left : ℕ) (ticked : Bool) (more : ℕ) → more ≡ from_bool ticked → (IsOver until turns ticks → ⊥) → TriesSoFar first until turns ticks a b (client, tries)
+pub tries-go-on : (first : Try) (details : Bool) (same : details ≡ first.details) (until : Until) (turns ticks : ℕ) (a b c : Beside LinkTold) (client later : NotedClient) (tries left : ℕ) (ticked : Bool) (more : ℕ) → more ≡ from_bool ticked → (IsOver until turns ticks → ⊥) → TriesSoFar first until turns ticks a b (client, tries)
     → TurnOf details client tries b c (Ok (later, left, ticked)) → TriesSoFar first until (turns + 1) (ticks + more) a c (later, left)
 tries-go-on first details same until turns ticks a b c client later tries left ticked more counted still so turn =
     let t = try_after first so.inputs in
@@ -330,14 +346,58 @@ tries-nothing first until a = record {
   ends = Gives-nil a;
 }
 
+-- ---- a text, or offers, one part of which came before the other
+
+between-texts : (a c : Option (List ℕ)) (one two : List ℕ) → Appends a c (one ++ two) → (b : Option (List ℕ)) × Appends a b one × Appends b c two
+between-texts None c one two p = (None, tt, tt)
+between-texts (Some a) None one two p = absurd p
+between-texts (Some a) (Some c) one two p = (Some (a ++ one), refl, p ∙ sym (append_assoc a one two))
+
+between-offers : (a c : Option Offers) (one two : Offers) → AddsOffers (one ++ two) a c → (b : Option Offers) × AddsOffers one a b × AddsOffers two b c
+between-offers None c one two p = (None, tt, tt)
+between-offers (Some a) None one two p = absurd p
+between-offers (Some a) (Some c) one two p = (Some (a ++ one), refl, p ∙ sym (append_assoc a one two))
+
+-- all that was to be given is part of it
+pub tries-cut : (first : Try) (inputs : List ClientInput) (a c : Beside LinkTold) → GivesTries first inputs a c → TriesCut first inputs a c
+tries-cut first [] a c gives = gives
+tries-cut first (input ∷ past) a c gives =
+    let t = try_after first past in
+    let told = between-offers a.told.offered c.told.offered (offers_in_tries first past) (offers_at t.errand input t.inputs) gives.offered in
+    let written = between-texts a.written c.written (lines_in first past) (line_before input t ++ line_behind input t) gives.written in
+    let behind = between-texts written.0 c.written (line_before input t) (line_behind input t) written.2 in (
+      beside (record c.told { offered = told.0 }) written.0,
+      record { offered = told.1; written = written.1 },
+      inr (record {
+        between = behind.0;
+        announced = behind.1;
+        offered = front-all told.0 c.told.offered (offers_at t.errand input t.inputs) told.2;
+        written = AppendsFront-all behind.0 c.written (line_behind input t) behind.2;
+      }),
+    )
+
+-- a run that ends so, of which nothing is known in the end
+ends-open : (first : Try) (until : Until) (inputs : List ClientInput) (a c : Beside LinkTold) (ending : TryEnding) → known_in_try (try_after first inputs) ≡ known.Open → InputsAreOver until inputs c.told → GivesTries first inputs a c
+    → EndsOpen (try_after first inputs) ending → TriesEnd first until inputs a c ending
+ends-open first until inputs a c (Ended (Knows known.Open)) unknown over gives ends = (unknown, λ open_yet. (ends, over), gives)
+ends-open first until inputs a c (Ended (Knows (known.Accepted digest))) unknown over gives ends = absurd ends
+ends-open first until inputs a c (Ended (Knows (known.Aborted digest))) unknown over gives ends = absurd ends
+ends-open first until inputs a c (Ended (Refused cause)) unknown over gives ends = absurd ends
+ends-open first until inputs a c (Ended LinkFault) unknown over gives ends = absurd ends
+ends-open first until inputs a c (Ended Memory) unknown over gives ends = tries-cut first inputs a c gives
+ends-open first until inputs a c (Told digest) unknown over gives ends = absurd ends
+ends-open first until inputs a c (Waits text) unknown over gives ends = (unknown, ends, over, gives)
+ends-open first until inputs a c WriteFault unknown over gives ends = absurd ends
+
 -- they were enough
-pub tries-over : (first : Try) (until : Until) (turns ticks : ℕ) (a b : Beside LinkTold) (going : Going) → IsOver until turns ticks → TriesSoFar first until turns ticks a b going → AttendsTries first until a b (Ended (Knows known.Open))
-tries-over first until turns ticks a b going enough so = record {
+pub tries-over : (first : Try) (until : Until) (turns ticks : ℕ) (a b : Beside LinkTold) (client : NotedClient) (tries : ℕ) (ending : TryEnding) → IsOver until turns ticks → TriesSoFar first until turns ticks a b (client, tries)
+    → ((t : Try) → NotedStandsFor t.errand t.details t.inputs client → EndsOpen t ending) → AttendsTries first until a b ending
+tries-over first until turns ticks a b client tries ending enough so ends = record {
   inputs = so.inputs;
   needed = so.needed;
   takes = so.takes;
   unknown = so.unknown;
-  ends = (so.goes.unknown, λ open_yet. inl (over-by is_tick until so.inputs turns ticks so.all so.ticked enough), so.gives);
+  ends = ends-open first until so.inputs a b ending so.goes.unknown (inl (over-by is_tick until so.inputs turns ticks so.all so.ticked enough)) so.gives (ends (try_after first so.inputs) so.goes.stands);
 }
 
 -- nothing more was given
@@ -347,7 +407,7 @@ kept offers lines a b c stays same gives = record {
   written = subst (λ (w : Option (List ℕ)). Appends a.written w lines) (sym same) gives.written;
 }
 
-module _ (first : Try) (details : Bool) (same : details ≡ first.details) (until : Until) (turns ticks : ℕ) (a b c : Beside LinkTold) (client : Client) (tries : ℕ) (still : IsOver until turns ticks → ⊥) (so : TriesSoFar first until turns ticks a b (client, tries)) where
+module _ (first : Try) (details : Bool) (same : details ≡ first.details) (until : Until) (turns ticks : ℕ) (a b c : Beside LinkTold) (client : NotedClient) (tries : ℕ) (still : IsOver until turns ticks → ⊥) (so : TriesSoFar first until turns ticks a b (client, tries)) where
   abbrev now : Try
   now = try_after first so.inputs
 
@@ -372,31 +432,39 @@ module _ (first : Try) (details : Bool) (same : details ≡ first.details) (unti
   turned : (ending : TryEnding) → TurnOf details client tries b c (Err ending) → TryTakesTurn now b c (Err ending)
   turned ending turn = turn now so.goes.stands (same ∙ details-kept first so.inputs) so.goes.tries_are
 
-  known-last : (k : Known) → (one : TryAnswers now b c (Err (Ended (Knows k)))) → AttendsTries first until a c (Ended (Knows k))
-  known-last k one = at-last (Ended (Knows k)) one (one.goes.0.0, λ open_yet. absurd (one.goes.0.1 open_yet), more-given one.input one.goes.1)
+  -- no input was left
+  none-left : (ending : TryEnding) → HasNoTurn now b c ending → AttendsTries first until a c ending
+  none-left ending one = record {
+    inputs = so.inputs;
+    needed = so.needed;
+    takes = takes-still a.told b.told c.told so.inputs so.takes one.none.left;
+    unknown = so.unknown;
+    ends = ends-open first until so.inputs a c ending so.goes.unknown (inr one.none.none) (kept (offers_in_tries first so.inputs) (lines_in first so.inputs) a b c one.none.offered one.written so.gives) one.ends;
+  }
+
+  refused-gives : Gives [] [] b c → GivesTries first so.inputs a c
+  refused-gives gives =
+      subst (λ (xs : Offers). Gives xs (lines_in first so.inputs) a c) (append-nil (offers_in_tries first so.inputs))
+      (subst (λ (ys : List ℕ). Gives (offers_in_tries first so.inputs ++ []) ys a c) (append-nil (lines_in first so.inputs))
+      (Gives-more a b c (offers_in_tries first so.inputs) [] (lines_in first so.inputs) [] so.gives gives))
+
+  -- the last input was answered
+  answered-last : (ending : TryEnding) → TryAnswers now b c (Err ending) → AttendsTries first until a c ending
+  answered-last (Ended (Knows k)) one = at-last (Ended (Knows k)) one (one.goes.0.0, λ open_yet. absurd (one.goes.0.1 open_yet), more-given one.input one.goes.1)
+  answered-last (Ended (Refused cause)) one = at-last (Ended (Refused cause)) one (one.goes.0, refused-gives one.goes.1)
+  answered-last (Ended LinkFault) one = absurd one.goes.0
+  answered-last (Ended Memory) one = at-last (Ended Memory) one (more-part one.input one.goes.1)
+  answered-last (Told digest) one = at-last (Told digest) one (one.goes.0, more-given one.input one.goes.1)
+  answered-last (Waits text) one = absurd one.goes.0
+  answered-last WriteFault one = at-last WriteFault one (more-part one.input one.goes.1)
+
+  either : (ending : TryEnding) → TryAnswers now b c (Err ending) ⊎ HasNoTurn now b c ending → AttendsTries first until a c ending
+  either ending (inl one) = answered-last ending one
+  either ending (inr none) = none-left ending none
 
   pub tries-end : (ending : TryEnding) → TurnOf details client tries b c (Err ending) → AttendsTries first until a c ending
-  tries-end (Ended (Knows known.Open)) turn =
-      let one = turned (Ended (Knows known.Open)) turn in
-      record {
-        inputs = so.inputs;
-        needed = so.needed;
-        takes = takes-still a.told b.told c.told so.inputs so.takes one.0.left;
-        unknown = so.unknown;
-        ends = (so.goes.unknown, λ open_yet. inr one.0.none, kept (offers_in_tries first so.inputs) (lines_in first so.inputs) a b c one.0.offered one.1 so.gives);
-      }
-  tries-end (Ended (Knows (known.Accepted digest))) turn = known-last (known.Accepted digest) (turned (Ended (Knows (known.Accepted digest))) turn)
-  tries-end (Ended (Knows (known.Aborted digest))) turn = known-last (known.Aborted digest) (turned (Ended (Knows (known.Aborted digest))) turn)
-  tries-end (Ended (Refused cause)) turn =
-      let one = turned (Ended (Refused cause)) turn in
-      at-last (Ended (Refused cause)) one
-      (one.goes.0, refused-gives one.goes.1)
-    where
-      refused-gives : Gives [] [] b c → GivesTries first so.inputs a c
-      refused-gives gives =
-          subst (λ (xs : Offers). Gives xs (lines_in first so.inputs) a c) (append-nil (offers_in_tries first so.inputs))
-          (subst (λ (ys : List ℕ). Gives (offers_in_tries first so.inputs ++ []) ys a c) (append-nil (lines_in first so.inputs))
-          (Gives-more a b c (offers_in_tries first so.inputs) [] (lines_in first so.inputs) [] so.gives gives))
+  tries-end (Ended (Knows k)) turn = either (Ended (Knows k)) (turned (Ended (Knows k)) turn)
+  tries-end (Ended (Refused cause)) turn = either (Ended (Refused cause)) (turned (Ended (Refused cause)) turn)
   tries-end (Ended LinkFault) turn =
       let one = turned (Ended LinkFault) turn in
       record {
@@ -410,6 +478,7 @@ module _ (first : Try) (details : Bool) (same : details ≡ first.details) (unti
           kept (offers_in_tries first so.inputs) (lines_in first so.inputs) a b c one.0.offered one.1 so.gives,
         );
       }
-  tries-end (Ended Memory) turn = let one = turned (Ended Memory) turn in at-last (Ended Memory) one (more-part one.input one.goes.1)
-  tries-end (Told digest) turn = let one = turned (Told digest) turn in at-last (Told digest) one (one.goes.0, more-given one.input one.goes.1)
-  tries-end WriteFault turn = let one = turned WriteFault turn in at-last WriteFault one (more-part one.input one.goes.1)
+  tries-end (Ended Memory) turn = either (Ended Memory) (turned (Ended Memory) turn)
+  tries-end (Told digest) turn = either (Told digest) (turned (Told digest) turn)
+  tries-end (Waits text) turn = either (Waits text) (turned (Waits text) turn)
+  tries-end WriteFault turn = either WriteFault (turned WriteFault turn)

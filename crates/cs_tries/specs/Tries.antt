@@ -12,6 +12,7 @@ use Rattle.cs_client.specs.Knowing.{knows}
 use Rattle.cs_client.specs.Lines.{known_line}
 use Rattle.cs_client.specs.Standing.{errand_again}
 use Rattle.cs_details.specs.Lines.{session_line, tx_lines}
+use Rattle.cs_waits.specs.Standing.{lines_if}
 
 -- a try: whether details are told, what it is to do, how many may be made with it, and the inputs since it began
 pub record Try : Type 0 where
@@ -95,3 +96,7 @@ abbrev pub lines_in : Try → List ClientInput → List ℕ
 lines_in first [] = []
 lines_in first (input ∷ past) =
     let t = try_after first past in lines_in first past ++ (line_before input t ++ line_behind input t)
+
+-- the last lines of a try of which nothing is known, where they tell more than that
+abbrev pub lines_open : Try → Option (List ℕ)
+lines_open t = lines_if t.details t.errand t.inputs

@@ -1,6 +1,6 @@
 -- A client over a link whose call is made again after it was aborted: what it takes, what is offered and printed, and
 -- how its run ends.
-use Rattle.std.specs.Prelude.{◌≡◌, ◌≢◌, ◌⊎◌, ℕ, ◌+◌, ◌-◌, ◌^◌, min, Bool, List, [], ◌∷◌, ◌++◌, Option, Result, Ok, Err}
+use Rattle.std.specs.Prelude.{◌≡◌, ◌≢◌, ◌⊎◌, ℕ, ◌+◌, ◌-◌, ◌^◌, min, Bool, List, [], ◌∷◌, ◌++◌, Option, Some, None, Result, Ok, Err}
 use Rattle.std.specs.Io.KnownBytes.{Appends}
 use Rattle.cs_base.specs.Answers.{AppendsFront}
 use Rattle.cs_base.specs.declared.printing.WriteError.{WriteError}
@@ -14,14 +14,15 @@ use Rattle.cs_proc.specs.declared.error.ProcError.{ProcError}
 use Rattle.cs_client.specs.declared.known.Known.{Known}
 use Rattle.cs_client.specs.declared.known.Known.TheVariants as known
 use Rattle.cs_client.specs.Inputs.{ClientInput}
-use Rattle.cs_client.specs.Seen.{Client}
-use Rattle.cs_client.specs.Standing.{ClientStandsFor, MethodIsRefused}
-use Rattle.cs_tries.specs.Tries.{Try, with_input, known_in_try, then_next, moved_on, try_after, line_before, line_behind, lines_in}
+use Rattle.cs_client.specs.Standing.{MethodIsRefused}
+use Rattle.cs_waits.specs.declared.noted.NotedClient.{NotedClient}
+use Rattle.cs_waits.specs.Standing.{NotedStandsFor}
+use Rattle.cs_tries.specs.Tries.{Try, with_input, known_in_try, then_next, moved_on, try_after, line_before, line_behind, lines_in, lines_open}
 use Rattle.cs_serve.specs.declared.receiving.TheConstants.{MOST_MISSED}
 use Rattle.cs_serve.specs.declared.client_ending.Ending.{Ending}
 use Rattle.cs_serve.specs.declared.client_ending.Ending.TheVariants.{Knows, Refused, LinkFault, Memory}
 use Rattle.cs_tries.specs.declared.ending.TryEnding.{TryEnding}
-use Rattle.cs_tries.specs.declared.ending.TryEnding.TheVariants.{Ended, Told, WriteFault}
+use Rattle.cs_tries.specs.declared.ending.TryEnding.TheVariants.{Ended, Told, Waits, WriteFault}
 use Rattle.cs_serve.specs.Offering.{AddsFront}
 use Rattle.cs_serve.specs.Giving.{Gives}
 use Rattle.cs_serve.specs.Attending.{is_tick, ClientTakes, offers_at, InputsAreOver, missed_past, HasNone, HasFailed}
@@ -74,10 +75,12 @@ TriesCut first (input ∷ past) old new =
     (between : Beside LinkTold) × GivesTries first past old between
     × GivesPart (offers_at t.errand input t.inputs) (line_before input t) (line_behind input t) between new
 
--- as a client ends, with the last try; or it told that it is accepted; or a line could not be printed
+-- as a client ends, with the last try; or it told that it is accepted; or it tells what it waits for; or a line could
+-- not be printed
 abbrev pub TriesEnd : Try → Until → List ClientInput → Beside LinkTold → Beside LinkTold → TryEnding → Type 0
 TriesEnd first until inputs old new (Ended (Knows so)) =
-    (known_in_try (try_after first inputs) ≡ so) × (so ≡ known.Open → InputsAreOver until inputs new.told)
+    (known_in_try (try_after first inputs) ≡ so)
+    × (so ≡ known.Open → (lines_open (try_after first inputs) ≡ None) × InputsAreOver until inputs new.told)
     × GivesTries first inputs old new
 TriesEnd first until inputs old new (Ended (Refused cause)) = TriesRefused first inputs old new cause
 TriesEnd first until inputs old new (Ended LinkFault) =
@@ -86,6 +89,9 @@ TriesEnd first until inputs old new (Ended LinkFault) =
 TriesEnd first until inputs old new (Ended Memory) = TriesCut first inputs old new
 TriesEnd first until inputs old new (Told digest) =
     (known_in_try (try_after first inputs) ≡ known.Accepted digest) × GivesTries first inputs old new
+TriesEnd first until inputs old new (Waits text) =
+    (known_in_try (try_after first inputs) ≡ known.Open) × (lines_open (try_after first inputs) ≡ Some text)
+    × InputsAreOver until inputs new.told × GivesTries first inputs old new
 TriesEnd first until inputs old new WriteFault = TriesCut first inputs old new
 
 -- A client was run: these inputs were taken, none of them too many, and before the last of them nothing was known; and
@@ -106,11 +112,11 @@ unwritten write.Memory = Ended Memory
 
 -- the client that goes on, with how many tries may be made with it
 abbrev pub Going : Type 0
-Going = Client × ℕ
+Going = NotedClient × ℕ
 
 -- the client stands for this try, of which nothing is known
 pub record GoesOnAs (t : Try) (going : Going) : Type 0 where
-  pub stands : ClientStandsFor t.errand t.inputs going.0
+  pub stands : NotedStandsFor t.errand t.details t.inputs going.0
   pub tries_are : going.1 ≡ t.tries
   pub unknown : known_in_try t ≡ known.Open
 
@@ -122,6 +128,7 @@ GoesBehind t (Err (Ended (Refused cause))) = ⊥
 GoesBehind t (Err (Ended LinkFault)) = ⊥
 GoesBehind t (Err (Ended Memory)) = Unit {0}
 GoesBehind t (Err (Told digest)) = known_in_try t ≡ known.Accepted digest
+GoesBehind t (Err (Waits text)) = ⊥
 GoesBehind t (Err WriteFault) = Unit {0}
 
 -- what was printed at it; a front of it where that could not be, and for want of memory
@@ -151,10 +158,22 @@ pub record TryAnswers (t : Try) (old new : Beside LinkTold) (result : Result Goi
   pub missed : new.told.missed ≡ 0
   pub goes : TryGoesBy t input old new result
 
+-- how a try ends of which nothing is known in the end, for which memory may not do
+abbrev pub EndsOpen : Try → TryEnding → Type 0
+EndsOpen t (Ended (Knows known.Open)) = lines_open t ≡ None
+EndsOpen t (Ended Memory) = Unit {0}
+EndsOpen t (Waits text) = lines_open t ≡ Some text
+EndsOpen t ending = ⊥
+
+-- no input was left
+pub record HasNoTurn (t : Try) (old new : Beside LinkTold) (ending : TryEnding) : Type 0 where
+  pub none : HasNone old.told new.told
+  pub written : new.written ≡ old.written
+  pub ends : EndsOpen t ending
+
 -- what came of one turn, which tells whether its input was a tick
-abbrev pub TryTakesTurn : Try → Beside LinkTold → Beside LinkTold → Result (Client × ℕ × Bool) TryEnding → Type 0
-TryTakesTurn t old new (Ok (client, tries, ticked)) =
-    (one : TryAnswers t old new (Ok (client, tries))) × (ticked ≡ is_tick one.input)
-TryTakesTurn t old new (Err (Ended (Knows known.Open))) = HasNone old.told new.told × (new.written ≡ old.written)
+abbrev pub TryTakesTurn : Try → Beside LinkTold → Beside LinkTold → Result (NotedClient × ℕ × Bool) TryEnding → Type 0
+TryTakesTurn t old new (Ok (noted, tries, ticked)) =
+    (one : TryAnswers t old new (Ok (noted, tries))) × (ticked ≡ is_tick one.input)
 TryTakesTurn t old new (Err (Ended LinkFault)) = HasFailed old.told new.told × (new.written ≡ old.written)
-TryTakesTurn t old new (Err ending) = TryAnswers t old new (Err ending)
+TryTakesTurn t old new (Err ending) = TryAnswers t old new (Err ending) ⊎ HasNoTurn t old new ending

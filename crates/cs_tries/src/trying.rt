@@ -14,9 +14,10 @@ ghost use Rattle.cs_client.specs.Knowing.{knows};
 ghost use Rattle.cs_client.specs.Standing.{errand_again, ClientStandsFor};
 ghost use Rattle.cs_client.specs.Phases.{submitted};
 ghost use Rattle.cs_details.specs.Lines.{tx_lines};
+ghost use Rattle.cs_waits.specs.Standing.{NotedStandsFor};
 ghost use Rattle.cs_tries.specs.Tries.{Try, try_begun, may_follow, phase_in_try, known_in_try, then_next, announcement, lines_accepted, line_between};
 ghost use Rattle.cs_serve.specs.Offering.{offers_in};
-ghost use Rattle.cs_tries.specs.Trying.{AttendsTries, TryTakesTurn, TryGoesBy, GoesBehind, PrintsBehind, GivenBy, unwritten};
+ghost use Rattle.cs_tries.specs.Trying.{AttendsTries, TryTakesTurn, TryGoesBy, GoesBehind, PrintsBehind, GivenBy, EndsOpen, unwritten};
 
 use crate::ending::TryEnding;
 use cs_base::{MOST_DATAGRAM, Memory, Sequence, Sink, WriteError, print};
@@ -25,13 +26,15 @@ use cs_details::{session_line, tx_lines};
 use cs_io::{Arrived, Link, Until};
 use cs_serve::{Ending, offer, receive};
 use cs_tx_value::Digest;
+use cs_waits::NotedClient;
 use std::alloc::Global;
 
 /// Gives a client the inputs of the link for so long, and offers what it says. Where it knows that
 /// its session is aborted, and another try may be made, the line of that is printed, and the call
 /// is made again under the next number; so many tries are made at most. With details it prints each
-/// session before it is submitted, and of one that is accepted the transaction. It ends as the last
-/// try does, or where a line can't be printed.
+/// session before it is submitted, and of one that is accepted the transaction; and it tells what
+/// it waits for where it knows nothing in the end. It ends as the last try does, or where a line
+/// can't be printed.
 pub fn attend_tries<L: Link, K: Sink>(
     alloc: Global,
     client: ClientCore,
@@ -51,18 +54,44 @@ pub fn attend_tries<L: Link, K: Sink>(
         (result ≡ TryEnding.Ended Ending.LinkFault) }
     ensures sink { HasCause (K.faults out.old) (K.faults out.new) (result ≡ TryEnding.WriteFault) }
 {
+    match NotedClient::start(alloc, client, details) {
+        Ok(noted) => attend_noted(alloc, noted, details, tries, link, out, until),
+        Err(_) => TryEnding::Ended(Ending::Memory),
+    }
+}
+
+// The same of a client that keeps notes, where details are to be told.
+fn attend_noted<L: Link, K: Sink>(
+    alloc: Global,
+    noted: NotedClient,
+    details: bool,
+    tries: u64,
+    link: &mut L,
+    out: &mut K,
+    until: Until,
+) -> TryEnding
+    ensures attends { (e : Errand) → NotedStandsFor e details [] noted → knows e [] ≡ Known.Open
+        → AttendsTries (try_begun details e tries) until
+        (beside (L.told link.old) (K.written out.old))
+        (beside (L.told link.new) (K.written out.new)) result }
+    ensures bound { Stays (L.told link.old).bound (L.told link.new).bound }
+    ensures placed { Stays (L.told link.old).placed (L.told link.new).placed }
+    ensures link { HasCause (L.faults link.old) (L.faults link.new)
+        (result ≡ TryEnding.Ended Ending.LinkFault) }
+    ensures sink { HasCause (K.faults out.old) (K.faults out.new) (result ≡ TryEnding.WriteFault) }
+{
     let Ok(mut room) = vec![in alloc; 0u8; MOST_DATAGRAM + 1] else {
         return TryEnding::Ended(Ending::Memory);
     };
     let buf = room.as_mut_slice();
-    let mut client = client;
+    let mut noted = noted;
     let mut tries = tries;
     let mut turns = 0;
     let mut ticks = 0;
     while !until.is_over(turns, ticks) {
-        match take_turn(alloc, client, details, tries, link, out, buf) {
+        match take_turn(alloc, noted, details, tries, link, out, buf) {
             Ok((next, left, ticked)) => {
-                client = next;
+                noted = next;
                 tries = left;
                 turns += 1;
                 ticks += u64::from(ticked);
@@ -70,22 +99,36 @@ pub fn attend_tries<L: Link, K: Sink>(
             Err(ending) => return ending,
         }
     }
-    TryEnding::Ended(Ending::Knows(Known::Open))
+    ending_of(alloc, &noted)
+}
+
+// How a run ends that knows nothing in the end: with what it waits for, where that is to be told.
+fn ending_of(alloc: Global, noted: &NotedClient) -> TryEnding
+    ensures ends { (t : Try) → NotedStandsFor t.errand t.details t.inputs noted.now →
+        EndsOpen t result }
+    ensures link { result ≢ TryEnding.Ended Ending.LinkFault }
+    ensures sink { result ≢ TryEnding.WriteFault }
+{
+    match noted.open_text(alloc) {
+        Ok(Some(text)) => TryEnding::Waits(text),
+        Ok(None) => TryEnding::Ended(Ending::Knows(Known::Open)),
+        Err(_) => TryEnding::Ended(Ending::Memory),
+    }
 }
 
 // Takes an input and answers it: the client that goes on, with how many tries may be made and with
 // whether the input was a tick, or how its run ends.
 fn take_turn<L: Link, K: Sink>(
     alloc: Global,
-    client: ClientCore,
+    noted: NotedClient,
     details: bool,
     tries: u64,
     link: &mut L,
     out: &mut K,
     buf: &mut [u8],
-) -> Result<(ClientCore, u64, bool), TryEnding>
+) -> Result<(NotedClient, u64, bool), TryEnding>
     requires { length buf.old ≡ MOST_DATAGRAM + 1 }
-    ensures goes { (t : Try) → ClientStandsFor t.errand t.inputs client →
+    ensures goes { (t : Try) → NotedStandsFor t.errand t.details t.inputs noted →
         details ≡ t.details → tries ≡ t.tries →
         TryTakesTurn t (beside (L.told link.old) (K.written out.old))
         (beside (L.told link.new) (K.written out.new)) result }
@@ -100,14 +143,14 @@ fn take_turn<L: Link, K: Sink>(
         Arrived::Datagram(count) => {
             let (bytes, _) = buf.split_at(count);
             let input = Input::Datagram(bytes);
-            let (client, tries) = answer(alloc, client, details, tries, input, link, out)?;
-            Ok((client, tries, false))
+            let (noted, tries) = answer(alloc, noted, details, tries, input, link, out)?;
+            Ok((noted, tries, false))
         }
         Arrived::Tick => {
-            let (client, tries) = answer(alloc, client, details, tries, Input::Tick, link, out)?;
-            Ok((client, tries, true))
+            let (noted, tries) = answer(alloc, noted, details, tries, Input::Tick, link, out)?;
+            Ok((noted, tries, true))
         }
-        Arrived::End => Err(TryEnding::Ended(Ending::Knows(Known::Open))),
+        Arrived::End => Err(ending_of(alloc, &noted)),
         Arrived::Failed => Err(TryEnding::Ended(Ending::LinkFault)),
     }
 }
@@ -116,14 +159,14 @@ fn take_turn<L: Link, K: Sink>(
 // follows.
 fn answer<L: Link, K: Sink>(
     alloc: Global,
-    client: ClientCore,
+    noted: NotedClient,
     details: bool,
     tries: u64,
     input: Input<'_>,
     link: &mut L,
     out: &mut K,
-) -> Result<(ClientCore, u64), TryEnding>
-    ensures goes { (t : Try) → ClientStandsFor t.errand t.inputs client →
+) -> Result<(NotedClient, u64), TryEnding>
+    ensures goes { (t : Try) → NotedStandsFor t.errand t.details t.inputs noted →
         details ≡ t.details → tries ≡ t.tries →
         TryGoesBy t (client_input input.entry) (beside (L.told link.old) (K.written out.old))
         (beside (L.told link.new) (K.written out.new)) result }
@@ -136,9 +179,9 @@ fn answer<L: Link, K: Sink>(
     ensures sink { HasCause (K.faults out.old) (K.faults out.new)
         (IsErrOf result TryEnding.WriteFault) }
 {
-    let announcing = is_announcing(details, &client);
-    match client.step(alloc, input) {
-        Ok((client, outs)) => say(alloc, client, details, tries, announcing, outs, link, out),
+    let announcing = is_announcing(details, noted.client());
+    match noted.step(alloc, input) {
+        Ok((noted, outs)) => say(alloc, noted, details, tries, announcing, outs, link, out),
         Err(ClientError::Refused(cause)) => Err(TryEnding::Ended(Ending::Refused(cause))),
         Err(ClientError::Memory) => Err(TryEnding::Ended(Ending::Memory)),
     }
@@ -156,18 +199,18 @@ fn is_announcing(details: bool, client: &ClientCore) -> bool
 // what it knows.
 fn say<L: Link, K: Sink>(
     alloc: Global,
-    client: ClientCore,
+    noted: NotedClient,
     details: bool,
     tries: u64,
     announcing: bool,
     outs: Sequence<Out>,
     link: &mut L,
     out: &mut K,
-) -> Result<(ClientCore, u64), TryEnding>
-    ensures goes { (t : Try) → ClientStandsFor t.errand t.inputs client →
+) -> Result<(NotedClient, u64), TryEnding>
+    ensures goes { (t : Try) → NotedStandsFor t.errand t.details t.inputs noted →
         details ≡ t.details → tries ≡ t.tries →
         GoesBehind (then_next (known_in_try t) t) result }
-    ensures given { (t : Try) → ClientStandsFor t.errand t.inputs client →
+    ensures given { (t : Try) → NotedStandsFor t.errand t.details t.inputs noted →
         details ≡ t.details → tries ≡ t.tries →
         GivenBy (offers_in outs) (announcement announcing (phase_in_try t))
         (line_between (known_in_try t) t)
@@ -182,13 +225,13 @@ fn say<L: Link, K: Sink>(
     ensures sink { HasCause (K.faults out.old) (K.faults out.new)
         (IsErrOf result TryEnding.WriteFault) }
 {
-    if let Err(error) = announce(alloc, &client, announcing, out) {
+    if let Err(error) = announce(alloc, noted.client(), announcing, out) {
         return Err(unwritten(error));
     }
     let Ok(()) = offer(link, outs.as_slice()) else {
         return Err(TryEnding::Ended(Ending::Memory));
     };
-    go_on(alloc, client, details, tries, out)
+    go_on(alloc, noted, details, tries, out)
 }
 
 // How a run ends where a text isn't written.
@@ -255,20 +298,20 @@ fn accepted_text(alloc: Global, client: &ClientCore, digest: Digest) -> Result<S
 // Prints that a session is accepted, with the lines of its transaction.
 fn tell_accepted<K: Sink>(
     alloc: Global,
-    client: ClientCore,
+    client: &ClientCore,
     digest: Digest,
     out: &mut K,
 ) -> TryEnding
-    ensures goes { (t : Try) → ClientStandsFor t.errand t.inputs client →
+    ensures goes { (t : Try) → ClientStandsFor t.errand t.inputs client.now →
         known_in_try t ≡ Known.Accepted digest →
         GoesBehind (then_next (Known.Accepted digest) t) (Err result) }
-    ensures printed { (t : Try) → ClientStandsFor t.errand t.inputs client → t.details ≡ true →
+    ensures printed { (t : Try) → ClientStandsFor t.errand t.inputs client.now → t.details ≡ true →
         PrintsBehind (line_between (Known.Accepted digest) t)
         (K.written out.old) (K.written out.new) (Err result) }
     ensures only { result ≢ TryEnding.Ended Ending.LinkFault }
     ensures sink { HasCause (K.faults out.old) (K.faults out.new) (result ≡ TryEnding.WriteFault) }
 {
-    let Ok(text) = accepted_text(alloc, &client, digest) else {
+    let Ok(text) = accepted_text(alloc, client, digest) else {
         return TryEnding::Ended(Ending::Memory);
     };
     match print(out, text.as_bytes()) {
@@ -280,15 +323,15 @@ fn tell_accepted<K: Sink>(
 // How a run ends whose session is accepted, of which the details are printed.
 fn end_accepted<K: Sink>(
     alloc: Global,
-    client: ClientCore,
+    client: &ClientCore,
     details: bool,
     digest: Digest,
     out: &mut K,
 ) -> TryEnding
-    ensures goes { (t : Try) → ClientStandsFor t.errand t.inputs client →
+    ensures goes { (t : Try) → ClientStandsFor t.errand t.inputs client.now →
         known_in_try t ≡ Known.Accepted digest →
         GoesBehind (then_next (Known.Accepted digest) t) (Err result) }
-    ensures printed { (t : Try) → ClientStandsFor t.errand t.inputs client → details ≡ t.details →
+    ensures printed { (t : Try) → ClientStandsFor t.errand t.inputs client.now → details ≡ t.details →
         PrintsBehind (line_between (Known.Accepted digest) t)
         (K.written out.old) (K.written out.new) (Err result) }
     ensures only { result ≢ TryEnding.Ended Ending.LinkFault }
@@ -312,15 +355,15 @@ fn may_follow(tries: u64, number: u64) -> bool
 // follows; else tells what it knows.
 fn go_on<K: Sink>(
     alloc: Global,
-    client: ClientCore,
+    noted: NotedClient,
     details: bool,
     tries: u64,
     out: &mut K,
-) -> Result<(ClientCore, u64), TryEnding>
-    ensures goes { (t : Try) → ClientStandsFor t.errand t.inputs client →
+) -> Result<(NotedClient, u64), TryEnding>
+    ensures goes { (t : Try) → NotedStandsFor t.errand t.details t.inputs noted →
         details ≡ t.details → tries ≡ t.tries →
         GoesBehind (then_next (known_in_try t) t) result }
-    ensures printed { (t : Try) → ClientStandsFor t.errand t.inputs client →
+    ensures printed { (t : Try) → NotedStandsFor t.errand t.details t.inputs noted →
         details ≡ t.details → tries ≡ t.tries →
         PrintsBehind (line_between (known_in_try t) t)
         (K.written out.old) (K.written out.new) result }
@@ -328,27 +371,29 @@ fn go_on<K: Sink>(
     ensures sink { HasCause (K.faults out.old) (K.faults out.new)
         (IsErrOf result TryEnding.WriteFault) }
 {
-    match client.known() {
-        Known::Open => Ok((client, tries)),
-        Known::Accepted(digest) => Err(end_accepted(alloc, client, details, digest, out)),
-        Known::Aborted(digest) => try_next(alloc, client, details, tries, digest, out),
+    match noted.client().known() {
+        Known::Open => Ok((noted, tries)),
+        Known::Accepted(digest) => {
+            Err(end_accepted(alloc, noted.client(), details, digest, out))
+        }
+        Known::Aborted(digest) => try_next(alloc, noted, details, tries, digest, out),
     }
 }
 
 // Goes on with the next try behind one that is aborted, where one follows.
 fn try_next<K: Sink>(
     alloc: Global,
-    client: ClientCore,
+    noted: NotedClient,
     details: bool,
     tries: u64,
     digest: Digest,
     out: &mut K,
-) -> Result<(ClientCore, u64), TryEnding>
-    ensures goes { (t : Try) → ClientStandsFor t.errand t.inputs client →
+) -> Result<(NotedClient, u64), TryEnding>
+    ensures goes { (t : Try) → NotedStandsFor t.errand t.details t.inputs noted →
         details ≡ t.details → tries ≡ t.tries →
         known_in_try t ≡ Known.Aborted digest →
         GoesBehind (then_next (Known.Aborted digest) t) result }
-    ensures printed { (t : Try) → ClientStandsFor t.errand t.inputs client →
+    ensures printed { (t : Try) → NotedStandsFor t.errand t.details t.inputs noted →
         details ≡ t.details → tries ≡ t.tries →
         PrintsBehind (line_between (Known.Aborted digest) t)
         (K.written out.old) (K.written out.new) result }
@@ -356,8 +401,8 @@ fn try_next<K: Sink>(
     ensures sink { HasCause (K.faults out.old) (K.faults out.new)
         (IsErrOf result TryEnding.WriteFault) }
 {
-    if may_follow(tries, client.number()) {
-        try_again(alloc, client, details, tries, Known::Aborted(digest), out)
+    if may_follow(tries, noted.client().number()) {
+        try_again(alloc, noted, details, tries, Known::Aborted(digest), out)
     } else {
         Err(TryEnding::Ended(Ending::Knows(Known::Aborted(digest))))
     }
@@ -366,14 +411,14 @@ fn try_next<K: Sink>(
 // Prints what is known of a try, and begins the next one.
 fn try_again<K: Sink>(
     alloc: Global,
-    client: ClientCore,
+    noted: NotedClient,
     details: bool,
     tries: u64,
     known: Known,
     out: &mut K,
-) -> Result<(ClientCore, u64), TryEnding>
-    requires { may_follow tries client.errand.call.number ≡ true }
-    ensures goes { (t : Try) → ClientStandsFor t.errand t.inputs client →
+) -> Result<(NotedClient, u64), TryEnding>
+    requires { may_follow tries noted.client.errand.call.number ≡ true }
+    ensures goes { (t : Try) → NotedStandsFor t.errand t.details t.inputs noted →
         details ≡ t.details → tries ≡ t.tries →
         GoesBehind (try_begun t.details (errand_again t.errand) (t.tries - 1)) result }
     ensures printed { PrintsBehind (known_line known)
@@ -386,8 +431,8 @@ fn try_again<K: Sink>(
         return Err(TryEnding::Ended(Ending::Memory));
     };
     match print(out, line.as_bytes()) {
-        Ok(()) => match client.again(alloc) {
-            Ok(client) => Ok((client, tries - 1)),
+        Ok(()) => match noted.again(alloc) {
+            Ok(noted) => Ok((noted, tries - 1)),
             Err(_) => Err(TryEnding::Ended(Ending::Memory)),
         },
         Err(error) => Err(unwritten(error)),
