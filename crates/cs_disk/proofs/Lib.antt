@@ -1,0 +1,3 @@
+pub mod Tearing
+mod Passing
+pub mod Runs

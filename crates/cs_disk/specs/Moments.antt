@@ -1,0 +1,9 @@
+-- What a crash at some moment of a run leaves.
+use Rattle.std.specs.Prelude.{◌⊎◌, ℕ, ◌≤◌, List}
+
+-- A crash at any moment since old leaves a content that has P. The third field is for a run that began earlier.
+pub record LeavesOnly {D : Type 0} (moment : D → ℕ) (left_since : D → ℕ → List ℕ → Type 0) (old new : D)
+    (P : List ℕ → Type 0) : Type 0 where
+  pub later : moment old ≤ moment new
+  pub each : (c : List ℕ) → left_since new (moment old) c → P c
+  pub before : (t : ℕ) (c : List ℕ) → t ≤ moment old → left_since new t c → left_since old t c ⊎ P c

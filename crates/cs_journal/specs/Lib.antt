@@ -1,0 +1,4 @@
+pub mod Records
+pub mod Journal
+pub mod Moments
+pub mod Keeping

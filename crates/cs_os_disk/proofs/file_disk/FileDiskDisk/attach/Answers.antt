@@ -1,0 +1,5 @@
+use Rattle.cs_os_disk.proofs.Untold.{counted}
+use Rattle.cs_os_disk.proofs.file_disk.FileDiskDisk.attach.Goals as goal
+
+pub returns-in-Err-2-clause-cause : goal.returns-in-Err-2-clause-cause
+returns-in-Err-2-clause-cause g c = counted c.args.self.now.faults c.count_fault.new.self.faults c.count_fault.ensures.later c.count_fault.ensures.faults
