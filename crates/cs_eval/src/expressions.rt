@@ -18,12 +18,12 @@ use crate::kinds::{comparing, kind_given};
 use crate::scene::Scene;
 use crate::stack::Stack;
 use cs_base::Sequence;
+use cs_eval_shared::Shared;
 use cs_eval_values::{
     Binary, Cause, Held, Names, Steps, Stop, Unary, apply_binary, apply_unary, decides, field_of,
     is_called, list_of, number, returned_int, with_item,
 };
 use cs_lang::{Access, Expr, Link, Shape, Step};
-use cs_tx_value::Value;
 use cs_types_kinds::HASH_COST;
 use std::sync::ledger::Ledger;
 
@@ -31,7 +31,7 @@ use std::sync::ledger::Ledger;
 fn name<'a>(names: &Names<'a>, name: &[u8], place: usize) -> Result<Held<'a>, Stop>
     ensures { RunEnds result (named_run names.now name.now place) }
 {
-    match names.find(name)? {
+    match names.find(name, place)? {
         Some(held) => Ok(held),
         None => Err(Stop::Trap(Cause::Misfit, place)),
     }
@@ -41,8 +41,7 @@ fn name<'a>(names: &Names<'a>, name: &[u8], place: usize) -> Result<Held<'a>, St
 fn empty_list<'a>(scene: &Scene<'_, 'a>) -> Result<Held<'a>, Stop>
     ensures { RunEnds result (gives (Plain (value.List []))) }
 {
-    let empty = Value::List(Sequence::new(scene.alloc));
-    Ok(Held::own(scene.alloc, empty)?)
+    Ok(Held::empty(scene.alloc)?)
 }
 
 /// One part is evaluated, and then something is made of it.
@@ -160,13 +159,13 @@ fn on_items<'a>(
     scene: &Scene<'_, 'a>,
     frames: &mut Stack<Frame<'a>>,
     items: &'a [Expr],
-    values: Sequence<Value>,
+    values: Sequence<Shared<'a>>,
     place: usize,
 ) -> Result<Next<'a>, Stop>
     requires { HasRoomFor (in_turn (map places items.now)) frames.old }
     ensures moves { (sight : Environment) → MachineMoves sight result 0
         (then_resumed sight frames.old.items
-        (items_run place values (map (meaning sight) items.now))) frames.new.items }
+        (items_run place values.entry (map (meaning sight) items.now))) frames.new.items }
     ensures smaller { IfOk result (λ n. left_work n frames.new.items
         < all_work (map work items.now) + frames_work frames.old.items) }
     ensures room { IfOk result (λ n. HasRoom n frames.new) }
@@ -390,20 +389,20 @@ fn on_item<'a>(
     scene: &Scene<'_, 'a>,
     frames: &mut Stack<Frame<'a>>,
     rest: &'a [Expr],
-    items: Sequence<Value>,
+    items: Sequence<Shared<'a>>,
     item: Held<'a>,
     place: usize,
 ) -> Result<Next<'a>, Stop>
     requires { HasRoomFor (in_turn (map places rest.now)) frames.old }
     ensures moves { (sight : Environment) → MachineMoves sight result 0
         (items_resumed sight frames.old.items place (map (meaning sight) rest.now)
-        (item_added place items item.entry)) frames.new.items }
+        (item_added place items.entry item.entry)) frames.new.items }
     ensures smaller { IfOk result (λ n. left_work n frames.new.items
         < all_work (map work rest.now) + frames_work frames.old.items) }
     ensures room { IfOk result (λ n. HasRoom n frames.new) }
     ensures most { frames.new.most ≡ frames.old.most }
 {
-    let items = with_item(scene.alloc, items, item, place)?;
+    let items = with_item(items, item, place)?;
     on_items(scene, frames, rest, items, place)
 }
 

@@ -1,8 +1,8 @@
 //! What is left to do of an expression.
 use cs_base::Sequence;
+use cs_eval_shared::Shared;
 use cs_eval_values::{Binary, Held, Unary};
 use cs_lang::{Expr, Link, Step};
-use cs_tx_value::Value;
 
 /// What is left to do with the value of a part of an expression.
 #[derive(Drop)]
@@ -18,7 +18,7 @@ pub enum Frame<'a> {
     /// These steps lead into it.
     Path(&'a [Step]),
     /// It is an item of a list: the items behind it, and the values of those before it.
-    Items(&'a [Expr], Sequence<Value>, usize),
+    Items(&'a [Expr], Sequence<Shared<'a>>, usize),
 }
 
 /// What is done next: an expression is evaluated, or its value is handed on.

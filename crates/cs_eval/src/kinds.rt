@@ -78,7 +78,7 @@ pub fn kind_given(scene: &Scene<'_, '_>, names: &Names<'_>, expr: &Expr) -> Opti
         Shape::Number(_) => Some(INT),
         Shape::Bytes(_) => Some(BYTES),
         Shape::Truth(_) => Some(BOOL),
-        Shape::Name(name) => names.kind(name.as_slice()),
+        Shape::Name(name) => names.kind(name.as_slice(), expr.place),
         Shape::List(items) => match items.as_slice() {
             [first, ..] => listed(kind_given(scene, names, first)),
             [] => None,

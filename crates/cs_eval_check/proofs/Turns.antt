@@ -19,7 +19,8 @@ use Rattle.cs_eval_values.specs.Answers.{Stops}
 use Rattle.cs_eval_values.specs.Runs.{Run, Gave, Answered, Trapped, gives, answers, spend, ◌>>=◌, through, or_trap}
 use Rattle.cs_tx_value.specs.declared.value.Value.{Value, out-Value}
 use Rattle.cs_tx_value.specs.declared.value.Value.TheOpen.{Value-F}
-use Rattle.cs_eval_values.specs.Datums.{Datum, Plain, One, Many, item_in, values_in, plain_each, items_of, item_of_datum, bool_of}
+use Rattle.cs_eval_shared.specs.Parts.{values_in}
+use Rattle.cs_eval_values.specs.Datums.{Datum, Plain, One, Many, item_in, plain_each, items_of, item_of_datum, bool_of}
 use Rattle.cs_eval_values.specs.Operators.{int, given_bool}
 use Rattle.cs_eval_values.proofs.Items.{plain_at, object_at}
 use Rattle.cs_eval_values.specs.Namings.{Named, named, with_named, with_datum}

@@ -1,6 +1,7 @@
 //! Checks.
 ghost use Rattle.std.specs.Prelude.{◌≡◌, ◌+◌, ◌*◌, ◌≤◌, OnOk, IfOk};
 ghost use Rattle.cs_eval_values.specs.Runs.{spent};
+ghost use Rattle.cs_eval_cells.specs.Checks.{check_cells};
 ghost use Rattle.cs_eval_law.specs.Acting.{block_run};
 ghost use Rattle.cs_eval_law.specs.Checks.{yes_of, says, spends, check_cost, check_places, check_run, IsKinded};
 
@@ -11,6 +12,7 @@ use cs_base::Memory;
 use cs_eval::{Scene, Stack, block_places};
 use cs_eval_values::{LentView, Names, Steps, Stop, View, fill};
 use cs_lang::{ContractTree, Method};
+use cs_lang_names::Numbers;
 use cs_types::Checked;
 use cs_types_kinds::method_number;
 use std::alloc::Global;
@@ -49,6 +51,7 @@ fn answer<'a, L: Ledger>(
 fn check_in<'a, L: Ledger>(
     alloc: Global,
     contract: &'a ContractTree,
+    numbers: &'a Numbers,
     method: &str,
     view: &LentView<'a>,
     steps: &mut Steps<L>,
@@ -63,7 +66,7 @@ fn check_in<'a, L: Ledger>(
     let Some(method) = methods.get(number) else {
         return Ok(false);
     };
-    match fill(alloc, contract, method, view)? {
+    match fill(alloc, contract, method, view, numbers)? {
         Some(names) => {
             let scene = Scene {
                 alloc,
@@ -77,7 +80,7 @@ fn check_in<'a, L: Ledger>(
 }
 
 /// `check` of a view that is lent.
-#[tactic(auto, using(cs_eval_law::proofs::Kept::lawful))]
+#[tactic(auto, using(cs_eval_law::proofs::Kept::lawful, cs_eval_cells::proofs::Celled::cells_within))]
 pub fn check_lent<'a, L: Ledger>(
     alloc: Global,
     checked: &'a Checked,
@@ -93,15 +96,17 @@ pub fn check_lent<'a, L: Ledger>(
     ensures kinded { IsKinded (check_run checked.now.contract method.now view.now) }
     ensures roomy { check_places checked.now.contract method.now
         ≤ 2 * check_cost checked.now method.now + 2 }
+    ensures small { check_cells checked.now.contract method.now
+        ≤ 4 * check_cost checked.now method.now }
 {
     let contract = checked.contract().tree();
-    check_in(alloc, contract, method, view, steps)
+    check_in(alloc, contract, checked.numbers(), method, view, steps)
 }
 
 /// Whether the check of a method says yes to a view. One that isn't there, or that the view doesn't
 /// fit, says no and spends nothing; one that traps or ends without an answer says no. Its two stacks
 /// are taken at its start, and no push wants memory.
-#[tactic(auto, using(cs_eval_law::proofs::Kept::lawful))]
+#[tactic(auto, using(cs_eval_law::proofs::Kept::lawful, cs_eval_cells::proofs::Celled::cells_within))]
 pub fn check<'a, L: Ledger>(
     alloc: Global,
     checked: &'a Checked,
@@ -117,8 +122,10 @@ pub fn check<'a, L: Ledger>(
     ensures kinded { IsKinded (check_run checked.now.contract method.now view.now) }
     ensures roomy { check_places checked.now.contract method.now
         ≤ 2 * check_cost checked.now method.now + 2 }
+    ensures small { check_cells checked.now.contract method.now
+        ≤ 4 * check_cost checked.now method.now }
 {
     let contract = checked.contract().tree();
     let lent = view.lend(alloc)?;
-    check_in(alloc, contract, method, &lent, steps)
+    check_in(alloc, contract, checked.numbers(), method, &lent, steps)
 }

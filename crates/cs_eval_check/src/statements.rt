@@ -24,11 +24,7 @@ use std::sync::ledger::Ledger;
 
 /// What a loop goes over at a place, if there is more.
 #[tactic(auto, using(crate::proofs::Turns::items_left))]
-pub fn item<'a>(
-    scene: &Scene<'_, 'a>,
-    source: &Source<'a>,
-    at: u16,
-) -> Result<Option<Held<'a>>, Memory>
+pub fn item<'a>(source: &Source<'a>, at: u16) -> Result<Option<Held<'a>>, Memory>
     ensures found { IfOk result (λ found. found ≡ first_datum (left_in source.now at)) }
     ensures more { IfOk result (λ found. IfSome found (λ _. at < most_turns source.now)) }
     ensures few { IfOk result (λ found. IfSome found (λ _. at < 65535)) }
@@ -42,7 +38,7 @@ pub fn item<'a>(
         }
         Source::Items(list) => {
             if usize::from(at) < MOST_ITEMS {
-                return list.item(scene.alloc, usize::from(at));
+                return list.item(usize::from(at));
             }
             Ok(None)
         }
@@ -101,7 +97,9 @@ fn let_name<'a, L: Ledger>(
         return Err(Stop::Trap(Cause::Misfit, name.place));
     };
     let held = evaluate(scene, &running.names, &mut running.frames, value, steps)?;
-    running.names.add(name.bytes.as_slice(), kind, held)?;
+    running
+        .names
+        .add(name.bytes.as_slice(), name.place, kind, held)?;
     Ok(())
 }
 
@@ -124,7 +122,7 @@ fn set_name<'a, L: Ledger>(
     ensures room { OnOk result (TasksHaveRoom 0 running.new) }
 {
     let held = evaluate(scene, &running.names, &mut running.frames, value, steps)?;
-    running.names.set(name.bytes.as_slice(), held);
+    running.names.set(name.bytes.as_slice(), name.place, held);
     Ok(())
 }
 
@@ -189,6 +187,7 @@ fn for_in<'a, L: Ledger>(
     }
     running.tasks.push(Task::Loop(Loop {
         name: name.bytes.as_slice(),
+        offset: name.place,
         kind,
         each,
         source: Source::Items(held),
@@ -215,13 +214,14 @@ fn turn<'a, L: Ledger>(
         < loop_work looping.entry + tasks_work running.old.tasks.items) }
     ensures room { OnOk result (TasksHaveRoom 0 running.new) }
 {
-    let Some(held) = item(scene, &looping.source, looping.at)? else {
+    let Some(held) = item(&looping.source, looping.at)? else {
         return Ok(());
     };
     steps.spend(1);
     let names = running.names.len();
     let Loop {
         name,
+        offset,
         kind,
         each,
         source,
@@ -229,12 +229,13 @@ fn turn<'a, L: Ledger>(
     } = looping;
     running.tasks.push(Task::Loop(Loop {
         name,
+        offset,
         kind,
         each,
         source,
         at: at + 1,
     }));
-    running.names.add(name, kind, held)?;
+    running.names.add(name, offset, kind, held)?;
     enter(running, each.statements.as_slice(), names);
     Ok(())
 }
@@ -291,6 +292,7 @@ fn for_to<'a>(running: &mut Running<'a>, name: &'a Text, count: u64, each: &'a B
 {
     running.tasks.push(Task::Loop(Loop {
         name: name.bytes.as_slice(),
+        offset: name.place,
         kind: INT,
         each,
         source: Source::Numbers(count.min(MOST_TURNS) as u16),

@@ -14,6 +14,7 @@ pub enum Source<'a> {
 #[derive(Drop)]
 pub struct Loop<'a> {
     pub name: &'a [u8],
+    pub offset: usize,
     pub kind: Kind,
     pub each: &'a Block,
     pub source: Source<'a>,

@@ -34,7 +34,8 @@ use Rattle.cs_eval_values.specs.declared.stop.Cause.TheVariants as cause
 use Rattle.cs_eval_values.specs.declared.operators.Unary.TheVariants as one
 use Rattle.cs_eval_values.specs.declared.operators.Binary.TheVariants as two
 use Rattle.cs_eval_values.specs.Runs.{Run, gives, traps, ◌>>=◌, or_trap}
-use Rattle.cs_eval_values.specs.Datums.{Datum, Plain, One, Many, int_in, bool_in, bytes_in, length_in, values_in, plain_each, int_of, bool_of, bytes_of_datum, length_of, plain_of, items_of}
+use Rattle.cs_eval_shared.specs.Parts.{int_in, bool_in, bytes_in, length_in, values_in}
+use Rattle.cs_eval_values.specs.Datums.{Datum, Plain, One, Many, plain_each, int_of, bool_of, bytes_of_datum, length_of, plain_of, items_of}
 use Rattle.cs_eval_values.specs.Ints.{in_range, ranged, divided, remainder, computed, negated, compared_ints}
 use Rattle.cs_eval_values.specs.Operators.{int, truth, text, given_int, given_bool, given_bytes, given_value, list_of, with_item, int_number, unary, joined_bytes, joined_lists, joined_layers, joined, same_bool, equality, both, same_in, compared_in, compared, right_bool, arithmetic, linked, item_at, indexed, binary}
 use Rattle.cs_eval_values.specs.Filling.{is_of_base, items_pass, is_list_of, values_fit}

@@ -10,6 +10,7 @@ use cs_base::Memory;
 use cs_eval::Scene;
 use cs_eval_values::{LentView, Names, fill};
 use cs_lang::{ContractTree, Method};
+use cs_lang_names::Numbers;
 use cs_types::Checked;
 use cs_types_kinds::method_number;
 use std::alloc::Global;
@@ -37,6 +38,7 @@ fn answer<'a>(
 fn verdict_in<'a>(
     alloc: Global,
     contract: &'a ContractTree,
+    numbers: &'a Numbers,
     method: &[u8],
     view: &LentView<'a>,
 ) -> Result<Verdict, Memory>
@@ -49,7 +51,7 @@ fn verdict_in<'a>(
     let Some(method) = methods.get(number) else {
         return Ok(Verdict::No(None));
     };
-    match fill(alloc, contract, method, view)? {
+    match fill(alloc, contract, method, view, numbers)? {
         Some(names) => {
             let scene = Scene {
                 alloc,
@@ -75,5 +77,5 @@ pub fn check_verdict<'a>(
         ≡ says checked.now.contract method.now view.now) }
 {
     let contract = checked.contract().tree();
-    verdict_in(alloc, contract, method, view)
+    verdict_in(alloc, contract, checked.numbers(), method, view)
 }

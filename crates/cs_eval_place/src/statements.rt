@@ -72,7 +72,7 @@ fn let_name<'a>(
         return Err(Ended::Trap(name.place));
     };
     let held = value(scene, names, expr)?;
-    names.add(name.bytes.as_slice(), kind, held)?;
+    names.add(name.bytes.as_slice(), name.place, kind, held)?;
     Ok(())
 }
 
@@ -87,7 +87,7 @@ fn set_name<'a>(
         (set_run scene.now.contract.now scene.now.view.now name.now expr.now names.old)) }
 {
     let held = value(scene, names, expr)?;
-    names.set(name.bytes.as_slice(), held);
+    names.set(name.bytes.as_slice(), name.place, held);
     Ok(())
 }
 
@@ -138,6 +138,7 @@ fn turn<'a>(
     scene: &Scene<'_, 'a>,
     names: &mut Names<'a>,
     name: &'a [u8],
+    offset: usize,
     kind: Kind,
     held: Held<'a>,
     each: &'a Block,
@@ -147,7 +148,7 @@ fn turn<'a>(
         names.old held.entry) }
 {
     let before = names.len();
-    names.add(name, kind, held)?;
+    names.add(name, offset, kind, held)?;
     block(scene, names, each)?;
     names.leave(before);
     Ok(())
@@ -159,6 +160,7 @@ fn turns<'a>(
     scene: &Scene<'_, 'a>,
     names: &mut Names<'a>,
     name: &'a [u8],
+    offset: usize,
     kind: Kind,
     source: &Source<'a>,
     each: &'a Block,
@@ -168,8 +170,8 @@ fn turns<'a>(
         (left_in source.now 0) names.old) }
 {
     let mut at = 0;
-    while let Some(held) = item(scene, source, at)? {
-        turn(scene, names, name, kind, held, each)?;
+    while let Some(held) = item(source, at)? {
+        turn(scene, names, name, offset, kind, held, each)?;
         at += 1;
     }
     Ok(())
@@ -189,7 +191,15 @@ fn for_to<'a>(
         (block_located scene.now.contract.now scene.now.view.now each.now) names.old) }
 {
     let source = Source::Numbers(count.min(MOST_TURNS) as u16);
-    turns(scene, names, name.bytes.as_slice(), INT, &source, each)
+    turns(
+        scene,
+        names,
+        name.bytes.as_slice(),
+        name.place,
+        INT,
+        &source,
+        each,
+    )
 }
 
 // The answer of the check.
@@ -233,7 +243,15 @@ fn act<'a>(
         Action::ForIn(name, list, each) => {
             let (kind, held) = looped_over(scene, names, name, list)?;
             let source = Source::Items(held);
-            turns(scene, names, name.bytes.as_slice(), kind, &source, each)
+            turns(
+                scene,
+                names,
+                name.bytes.as_slice(),
+                name.place,
+                kind,
+                &source,
+                each,
+            )
         }
         Action::ForTo(name, count, each) => for_to(scene, names, name, *count, each),
         Action::Make(_, _, _) => Err(Ended::Trap(place)),

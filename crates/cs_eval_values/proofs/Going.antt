@@ -1,9 +1,10 @@
 -- Objects gone over by their places.
-use Rattle.std.proofs.Common.{◌≡◌, ℕ, ◌+◌, ◌≤◌, Bool, true, false, List, [], ◌∷◌, length, drop, Option, Some, None, refl, sym, ap, ◌∙◌, arith, inl, inr}
+use Rattle.std.proofs.Common.{◌≡◌, ℕ, ◌+◌, ◌<◌, ◌≤◌, Bool, true, false, List, [], ◌∷◌, ◌++◌, length, get_or, take, drop, Option, Some, None, refl, sym, ap, ◌∙◌, arith, inl, inr}
 use Rattle.std.specs.Prelude.{◌&&◌, slice_get}
 use Rattle.std.specs.List.{list_all}
-use Rattle.std.proofs.lemmas.List.{drop_all}
+use Rattle.std.proofs.lemmas.List.{drop_all, take_more}
 use Rattle.std.proofs.lemmas.Option.{slice_get_within, get_or_from_slice_get, slice_get_cases}
+use Rattle.cs_tx_value.specs.declared.object.Object.{Object}
 use Rattle.cs_types_kinds.proofs.Loops.{opened}
 
 pub opened_at : {X : Type 0} (xs : List X) (i : ℕ) (x : X) → Some x ≡ slice_get xs i → drop i xs ≡ x ∷ drop (i + 1) xs
@@ -34,3 +35,15 @@ module _ {X : Type 0} (test : X → Bool) where
       let le : length xs ≤ i = past xs i is in
       let more : length xs ≤ i + 1 = omega arith in
       ap (list_all test) (drop_all (i + 1) xs more) ∙ sym (ap (list_all test) (drop_all i xs le)) ∙ h
+
+-- ---- objects that are kept
+
+pub kept_more : (os : List Object) (i : ℕ) (o : Object) (before after : List Object) → Some o ≡ slice_get os i → before ≡ take i os
+    → after ≡ before ++ o ∷ [] → after ≡ take (i + 1) os
+kept_more os i o before after is so_far more =
+    let lt : i < length os = slice_get_within os i o (sym is) in
+    let at : get_or os i o ≡ o = get_or_from_slice_get os i o o (sym is) in
+    more ∙ ap (λ (t : List Object). t ++ o ∷ []) so_far ∙ ap (λ (x : Object). take i os ++ x ∷ []) (sym at) ∙ sym (take_more os i o lt)
+
+pub kept_all : (os : List Object) (i : ℕ) → i < length os → None ≡ slice_get os i → ⊥
+kept_all os i lt none = let le : length os ≤ i = past os i none in omega (arith, lt)

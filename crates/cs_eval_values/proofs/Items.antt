@@ -4,7 +4,8 @@ use Rattle.std.specs.Prelude.{slice_get}
 use Rattle.cs_tx_value.specs.declared.object.Object.{Object}
 use Rattle.cs_tx_value.specs.declared.value.Value.{Value, out-Value}
 use Rattle.cs_tx_value.specs.declared.value.Value.TheOpen.{Value-F}
-use Rattle.cs_eval_values.specs.Datums.{Datum, Plain, One, Many, plain_item, object_item, item_in, values_in, plain_each, items_of, item_of_datum}
+use Rattle.cs_eval_shared.specs.Parts.{values_in}
+use Rattle.cs_eval_values.specs.Datums.{Datum, Plain, One, Many, plain_item, object_item, item_in, plain_each, items_of, item_of_datum}
 
 some_is : {A : Type 0} (x y : A) → Some x ≡ Some y → x ≡ y
 some_is x y is = cc

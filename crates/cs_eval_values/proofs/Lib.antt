@@ -3,3 +3,4 @@ pub mod Naming
 pub mod Uneven
 pub mod Going
 pub mod Items
+pub mod Firsting

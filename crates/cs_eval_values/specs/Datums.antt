@@ -3,6 +3,7 @@ use Rattle.std.specs.Prelude.{ℕ, ℤ, Bool, List, map, length, slice_get, Opti
 use Rattle.cs_tx_value.specs.declared.object.Object.{Object}
 use Rattle.cs_tx_value.specs.declared.value.Value.{Value, out-Value}
 use Rattle.cs_tx_value.specs.declared.value.Value.TheOpen.{Value-F}
+use Rattle.cs_eval_shared.specs.Parts.{int_in, bool_in, bytes_in, length_in, values_in}
 
 -- a value, the object of a slot, or the objects of a slot for any number of them
 pub data Datum : Type 0 where
@@ -11,30 +12,6 @@ pub data Datum : Type 0 where
   Many : List Object → Datum
 
 -- ---- parts of values
-
-abbrev pub int_in : Value-F Value → Option ℤ
-int_in (Value-F.Int n) = Some n
-int_in (Value-F.Bool b) = None
-int_in (Value-F.Bytes bytes) = None
-int_in (Value-F.List items) = None
-
-abbrev pub bool_in : Value-F Value → Option Bool
-bool_in (Value-F.Int n) = None
-bool_in (Value-F.Bool b) = Some b
-bool_in (Value-F.Bytes bytes) = None
-bool_in (Value-F.List items) = None
-
-abbrev pub bytes_in : Value-F Value → Option (List ℕ)
-bytes_in (Value-F.Int n) = None
-bytes_in (Value-F.Bool b) = None
-bytes_in (Value-F.Bytes bytes) = Some bytes
-bytes_in (Value-F.List items) = None
-
-abbrev pub length_in : Value-F Value → Option ℕ
-length_in (Value-F.Int n) = None
-length_in (Value-F.Bool b) = None
-length_in (Value-F.Bytes bytes) = Some (length bytes)
-length_in (Value-F.List items) = Some (length items)
 
 abbrev pub plain_item : Option Value → Option Datum
 plain_item None = None
@@ -90,12 +67,6 @@ plain_of (One o) = None
 plain_of (Many os) = None
 
 -- ---- items
-
-abbrev pub values_in : Value-F Value → Option (List Value)
-values_in (Value-F.Int n) = None
-values_in (Value-F.Bool b) = None
-values_in (Value-F.Bytes bytes) = None
-values_in (Value-F.List items) = Some items
 
 abbrev pub plain_each : Option (List Value) → Option (List Datum)
 plain_each None = None

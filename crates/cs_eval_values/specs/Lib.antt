@@ -13,3 +13,4 @@ pub mod Operators
 pub mod Views
 pub mod Namings
 pub mod Filling
+pub mod Firsts

@@ -9,7 +9,8 @@ use Rattle.cs_eval_values.specs.declared.stop.Cause.TheVariants as cause
 use Rattle.cs_eval_values.specs.declared.view.View.{View}
 use Rattle.cs_eval_values.specs.declared.view.Dep.{Dep}
 use Rattle.cs_eval_values.specs.Runs.{Run, gives, or_trap, ◌>>=◌}
-use Rattle.cs_eval_values.specs.Datums.{Datum, Plain, int_in, object_of_datum}
+use Rattle.cs_eval_values.specs.Datums.{Datum, Plain, object_of_datum}
+use Rattle.cs_eval_shared.specs.Parts.{int_in}
 use Rattle.cs_eval_values.specs.Operators.{int, truth}
 
 -- ---- fields of objects

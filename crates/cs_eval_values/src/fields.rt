@@ -1,17 +1,19 @@
 //! Fields of objects, and deps.
-ghost use Rattle.std.specs.Prelude.{◌≡◌, position, slice_get};
+ghost use Rattle.std.specs.Prelude.{◌≡◌, position, slice_get, IfOk};
 ghost use Rattle.std.specs.Option.{option_copied};
 ghost use Rattle.cs_types_kinds.specs.Lookups.{is_field};
 ghost use Rattle.cs_eval_values.specs.Answers.{RunEnds};
-ghost use Rattle.cs_eval_values.specs.Datums.{int_in};
-ghost use Rattle.cs_eval_values.specs.Views.{type_named, field_in, field_of as field_run, is_called as is_called_in, int_of_value, returned, returned_int as returned_run};
+ghost use Rattle.cs_eval_shared.specs.Parts.{int_in};
+ghost use Rattle.cs_tx_value.specs.declared.value.Value.{out-Value};
+ghost use Rattle.cs_eval_values.specs.Views.{type_named, field_place, field_in, field_of as field_run, is_called as is_called_in, int_of_value, returned, returned_int as returned_run};
 
 use crate::held::Held;
 use crate::stop::{Cause, Stop};
-use crate::values::value_int;
 use crate::view::LentView;
+use cs_base::Memory;
+use cs_eval_shared::{Shared, SharedObject};
 use cs_lang::{Field, TypeDef};
-use cs_tx_value::{Object, Value};
+use cs_tx_value::Value;
 
 /// The type of this name.
 pub fn type_named<'a>(types: &'a [TypeDef], name: &[u8]) -> Option<&'a TypeDef>
@@ -33,13 +35,26 @@ fn place_of(fields: &[Field], name: &[u8]) -> Option<usize>
         .position(|field| field.name.bytes.as_slice() == name)
 }
 
-/// The value of the field of this name.
-fn field_in<'a>(types: &[TypeDef], name: &[u8], object: &'a Object) -> Option<&'a Value>
-    ensures { option_copied result ≡ field_in types.now name.now object.now }
+/// The place of the field of this name in an object of the type.
+fn field_place(types: &[TypeDef], name: &[u8], type_name: &[u8]) -> Option<usize>
+    ensures { result ≡ field_place name.now (type_named type_name.now types.now) }
 {
-    let typedef = type_named(types, object.type_name.as_slice())?;
-    let place = place_of(typedef.fields.as_slice(), name)?;
-    object.values.as_slice().get(place)
+    let typedef = type_named(types, type_name)?;
+    place_of(typedef.fields.as_slice(), name)
+}
+
+/// The value of the field of this name.
+fn field_in<'a>(
+    types: &[TypeDef],
+    name: &[u8],
+    kept: &SharedObject<'a>,
+) -> Result<Option<Shared<'a>>, Memory>
+    ensures { IfOk result (λ found. found ≡ field_in types.now name.now kept.now) }
+{
+    match field_place(types, name, kept.object().type_name.as_slice()) {
+        Some(place) => kept.value(place),
+        None => Ok(None),
+    }
 }
 
 /// The field of this name.
@@ -52,8 +67,8 @@ pub fn field_of<'a>(
     ensures { RunEnds result (field_run types.now name.now place held.now) }
 {
     match held.as_object() {
-        Some(object) => match field_in(types, name, object) {
-            Some(value) => Ok(Held::lent(value)),
+        Some(object) => match field_in(types, name, object)? {
+            Some(value) => Ok(Held::plain(value)),
             None => Err(Stop::Trap(Cause::Misfit, place)),
         },
         None => Err(Stop::Trap(Cause::Misfit, place)),
@@ -69,6 +84,16 @@ pub fn is_called(view: &LentView<'_>, dep: u64, method: &[u8]) -> bool
             dep.contract.as_slice() == view.contract().as_slice() && dep.method == method
         }
         None => false,
+    }
+}
+
+/// The int that a value is, if it is one.
+fn value_int(value: &Value) -> Option<i64>
+    ensures { result ≡ int_in (out-Value value.now) }
+{
+    match value {
+        Value::Int(number) => Some(*number),
+        _ => None,
     }
 }
 

@@ -12,6 +12,7 @@ use crate::objects::Objects;
 use crate::view::LentView;
 use cs_base::Memory;
 use cs_lang::{ContractTree, Field, Method, Slot, TypeDef};
+use cs_lang_names::Numbers;
 use cs_lang_token::MOST_ITEMS;
 use cs_tx_value::{Digest, Object, Value};
 use cs_types_kinds::{Base, Kind, kind_of, type_number};
@@ -112,6 +113,7 @@ fn each_object_fits(
 
 /// Fills a slot for any number of objects, and answers how many it takes.
 fn fill_many<'a>(
+    alloc: Global,
     contract: &Digest,
     types: &[TypeDef],
     slot: &'a Slot,
@@ -127,12 +129,18 @@ fn fill_many<'a>(
         return Ok(None);
     }
     let kind = Kind::Objects(number);
-    names.add(slot.name.bytes.as_slice(), kind, Held::many(taken))?;
+    names.add(
+        slot.name.bytes.as_slice(),
+        slot.name.place,
+        kind,
+        Held::many(alloc, &taken)?,
+    )?;
     Ok(Some(MOST_ITEMS))
 }
 
 /// Fills a slot for one object, and answers how many it takes.
 fn fill_one<'a>(
+    alloc: Global,
     contract: &Digest,
     types: &[TypeDef],
     slot: &'a Slot,
@@ -149,7 +157,12 @@ fn fill_one<'a>(
                 return Ok(None);
             }
             let kind = Kind::Object(number);
-            names.add(slot.name.bytes.as_slice(), kind, Held::one(object))?;
+            names.add(
+                slot.name.bytes.as_slice(),
+                slot.name.place,
+                kind,
+                Held::one(alloc, object)?,
+            )?;
             Ok(Some(1))
         }
         None => Ok(None),
@@ -158,6 +171,7 @@ fn fill_one<'a>(
 
 /// Fills a slot, and answers how many objects it takes.
 pub fn fill_slot<'a>(
+    alloc: Global,
     contract: &Digest,
     types: &[TypeDef],
     slot: &'a Slot,
@@ -170,9 +184,9 @@ pub fn fill_slot<'a>(
     match type_number(types, slot.object.bytes.as_slice()) {
         Some(number) => {
             if slot.many {
-                return fill_many(contract, types, slot, number, objects, names);
+                return fill_many(alloc, contract, types, slot, number, objects, names);
             }
-            fill_one(contract, types, slot, number, objects, names)
+            fill_one(alloc, contract, types, slot, number, objects, names)
         }
         None => Ok(None),
     }
@@ -180,6 +194,7 @@ pub fn fill_slot<'a>(
 
 /// Fills slots with objects, of which none is left over.
 fn fill_slots<'a>(
+    alloc: Global,
     contract: &Digest,
     types: &[TypeDef],
     slots: &'a [Slot],
@@ -191,7 +206,7 @@ fn fill_slots<'a>(
 {
     let mut left = objects;
     for slot in slots {
-        match fill_slot(contract, types, slot, &left, names)? {
+        match fill_slot(alloc, contract, types, slot, &left, names)? {
             Some(taken) => left = left.behind(taken),
             None => return Ok(false),
         }
@@ -200,7 +215,12 @@ fn fill_slots<'a>(
 }
 
 /// Fills a field.
-fn fill_field<'a>(field: &'a Field, value: &'a Value, names: &mut Names<'a>) -> Result<bool, Memory>
+fn fill_field<'a>(
+    alloc: Global,
+    field: &'a Field,
+    value: &'a Value,
+    names: &mut Names<'a>,
+) -> Result<bool, Memory>
     ensures { IfOk result (λ fits. Fills fits names.new
         (field_filled field.now value.now names.old)) }
 {
@@ -209,7 +229,12 @@ fn fill_field<'a>(field: &'a Field, value: &'a Value, names: &mut Names<'a>) -> 
             if !has_kind(Some(kind), value) {
                 return Ok(false);
             }
-            names.add(field.name.bytes.as_slice(), kind, Held::lent(value))?;
+            names.add(
+                field.name.bytes.as_slice(),
+                field.name.place,
+                kind,
+                Held::lent(alloc, value)?,
+            )?;
             Ok(true)
         }
         None => Ok(false),
@@ -218,6 +243,7 @@ fn fill_field<'a>(field: &'a Field, value: &'a Value, names: &mut Names<'a>) -> 
 
 /// Fills fields with values, of which there are as many.
 fn fill_fields<'a>(
+    alloc: Global,
     fields: &'a [Field],
     values: &'a [Value],
     names: &mut Names<'a>,
@@ -229,7 +255,7 @@ fn fill_fields<'a>(
         return Ok(false);
     }
     for i in 0..fields.len() {
-        if !fill_field(&fields[i], &values[i], names)? {
+        if !fill_field(alloc, &fields[i], &values[i], names)? {
             return Ok(false);
         }
     }
@@ -242,28 +268,37 @@ pub fn fill<'a>(
     contract: &'a ContractTree,
     method: &'a Method,
     view: &LentView<'a>,
+    numbers: &'a Numbers,
 ) -> Result<Option<Names<'a>>, Memory>
     ensures { IfOk result (λ names. names ≡ filled contract.now method.now view.now) }
 {
     let id = view.contract();
     let types = contract.types.as_slice();
-    let mut names = Names::new(alloc);
+    let mut names = Names::numbered(alloc, numbers)?;
     let fits = fill_slots(
+        alloc,
         id,
         types,
         method.consumes.as_slice(),
         view.inputs(),
         &mut names,
-    )? && fill_slots(id, types, method.reads.as_slice(), view.reads(), &mut names)?
-        && fill_fields(method.takes.as_slice(), view.params(), &mut names)?
+    )? && fill_slots(
+        alloc,
+        id,
+        types,
+        method.reads.as_slice(),
+        view.reads(),
+        &mut names,
+    )? && fill_fields(alloc, method.takes.as_slice(), view.params(), &mut names)?
         && fill_slots(
+            alloc,
             id,
             types,
             method.creates.as_slice(),
             view.outputs(),
             &mut names,
         )?
-        && fill_fields(method.returns.as_slice(), view.returns(), &mut names)?;
+        && fill_fields(alloc, method.returns.as_slice(), view.returns(), &mut names)?;
     if fits {
         return Ok(Some(names));
     }

@@ -1,22 +1,18 @@
 //! What a name stands for and an expression gives.
-ghost use Rattle.std.specs.Prelude.{◌≡◌, is_some, IfOk};
+ghost use Rattle.std.specs.Prelude.{◌≡◌, [], is_some, slice_get, IfOk};
 ghost use Rattle.std.specs.Option.{option_copied};
-ghost use Rattle.cs_eval_values.specs.Datums.{Plain, One, Many, int_of, bool_of, bytes_of_datum, object_of_datum, length_of, items_of, item_of_datum, plain_of};
+ghost use Rattle.cs_eval_values.specs.Datums.{Plain, One, Many, int_of, bool_of, bytes_of_datum, object_of_datum, length_of, items_of, plain_item, object_item, item_of_datum, plain_of};
 ghost use Rattle.cs_tx_value.specs.declared.value.Value.TheVariants as value;
 
-use crate::objects::Objects;
-use crate::shared::Shared;
-use crate::values::{
-    bytes_value, is_list, lent_item, object_at, shared_item, value_bool, value_bytes, value_int,
-    value_length,
-};
-use cs_base::Memory;
-use cs_tx_value::{Encoded, Object, Value};
+use crate::objects::{Objects, kept_each};
+use cs_base::{Memory, Sequence};
+use cs_eval_shared::{Open, Shared, SharedObject, owned_of, shared_of, value_of};
+use cs_tx_value::{Object, Value};
 use std::alloc::Global;
 use std::marker::Model;
+use std::rc::Rc;
 
-/// A value, an object, or the objects of a slot for any number. What stands in the view or in the
-/// contract is lent, and what was computed is shared, so that to hold it once more copies nothing.
+/// A value, an object, or the objects of a slot for any number. To hold it once more copies nothing.
 #[derive(Drop)]
 pub struct Held<'a> {
     inner: Inner<'a>,
@@ -24,16 +20,9 @@ pub struct Held<'a> {
 
 #[derive(Drop)]
 enum Inner<'a> {
-    Int(i64),
-    Bool(bool),
-    /// Bytes of the text or the view.
-    Text(&'a [u8]),
-    /// A value of the view.
-    Lent(&'a Value),
-    /// A value that was computed.
-    Shared(Shared),
-    One(&'a Object),
-    Many(Objects<'a>),
+    Plain(Shared<'a>),
+    One(SharedObject<'a>),
+    Many(Rc<Sequence<SharedObject<'a>>>),
 }
 
 impl<'a> Model for Held<'a> {
@@ -56,63 +45,70 @@ impl<'a> Held<'a> {
     pub fn int(number: i64) -> Held<'a>
         ensures { result ≡ Plain (value.Int number) }
     {
-        Held {
-            inner: Inner::Int(number),
-        }
+        Held::plain(Shared::int(number))
     }
 
     /// A bool.
     pub fn truth(truth: bool) -> Held<'a>
         ensures { result ≡ Plain (value.Bool truth) }
     {
-        Held {
-            inner: Inner::Bool(truth),
-        }
+        Held::plain(Shared::truth(truth))
     }
 
     /// Bytes that stand in the text or in the view.
     pub fn text(bytes: &'a [u8]) -> Held<'a>
         ensures { result ≡ Plain (value.Bytes bytes.now) }
     {
+        Held::plain(Shared::text(bytes))
+    }
+
+    /// A value.
+    pub fn plain(value: Shared<'a>) -> Held<'a>
+        ensures { result ≡ Plain value.entry }
+    {
         Held {
-            inner: Inner::Text(bytes),
+            inner: Inner::Plain(value),
         }
+    }
+
+    /// The list without items.
+    pub fn empty(alloc: Global) -> Result<Held<'a>, Memory>
+        ensures { IfOk result (λ held. held ≡ Plain (value.List [])) }
+    {
+        Ok(Held::plain(Shared::empty(alloc)?))
     }
 
     /// A value that stands in the view.
-    pub fn lent(value: &'a Value) -> Held<'a>
-        ensures { result ≡ Plain value.now }
+    pub fn lent(alloc: Global, value: &'a Value) -> Result<Held<'a>, Memory>
+        ensures { IfOk result (λ held. held ≡ Plain value.now) }
     {
-        Held {
-            inner: Inner::Lent(value),
-        }
+        Ok(Held::plain(shared_of(alloc, value)?))
     }
 
-    /// A value that was computed.
-    pub fn own(alloc: Global, value: Value) -> Result<Held<'a>, Memory>
-        ensures { IfOk result (λ held. held ≡ Plain value) }
+    /// A value that stands somewhere else, which is copied.
+    pub fn own(alloc: Global, value: &Value) -> Result<Held<'a>, Memory>
+        ensures { IfOk result (λ held. held ≡ Plain value.now) }
     {
-        Ok(Held {
-            inner: Inner::Shared(Shared::new(alloc, value)?),
-        })
+        Ok(Held::plain(owned_of(alloc, value)?))
     }
 
     /// An object that stands in the view.
-    pub fn one(object: &'a Object) -> Held<'a>
-        ensures { result ≡ One object.now }
+    pub fn one(alloc: Global, object: &'a Object) -> Result<Held<'a>, Memory>
+        ensures { IfOk result (λ held. held ≡ One object.now) }
     {
-        Held {
-            inner: Inner::One(object),
-        }
+        Ok(Held {
+            inner: Inner::One(SharedObject::new(alloc, object)?),
+        })
     }
 
     /// Objects that stand in the view.
-    pub fn many(objects: Objects<'a>) -> Held<'a>
-        ensures { result ≡ Many objects.entry }
+    pub fn many(alloc: Global, objects: &Objects<'a>) -> Result<Held<'a>, Memory>
+        ensures { IfOk result (λ held. held ≡ Many objects.now) }
     {
-        Held {
-            inner: Inner::Many(objects),
-        }
+        let kept = kept_each(alloc, objects)?;
+        Ok(Held {
+            inner: Inner::Many(Rc::new(alloc, kept)?),
+        })
     }
 
     /// The same once more.
@@ -120,13 +116,9 @@ impl<'a> Held<'a> {
         ensures { IfOk result (λ held. held ≡ self.now) }
     {
         let inner = match &self.inner {
-            Inner::Int(number) => Inner::Int(*number),
-            Inner::Bool(truth) => Inner::Bool(*truth),
-            Inner::Text(bytes) => Inner::Text(*bytes),
-            Inner::Lent(value) => Inner::Lent(*value),
-            Inner::Shared(value) => Inner::Shared(value.share()?),
-            Inner::One(object) => Inner::One(*object),
-            Inner::Many(objects) => Inner::Many(objects.share()),
+            Inner::Plain(value) => Inner::Plain(value.share()?),
+            Inner::One(object) => Inner::One(object.share()?),
+            Inner::Many(objects) => Inner::Many(objects.clone()?),
         };
         Ok(Held { inner })
     }
@@ -136,9 +128,7 @@ impl<'a> Held<'a> {
         ensures { result ≡ int_of self.now }
     {
         match &self.inner {
-            Inner::Int(number) => Some(*number),
-            Inner::Lent(value) => value_int(value),
-            Inner::Shared(value) => value_int(value.get()),
+            Inner::Plain(value) => value.as_int(),
             _ => None,
         }
     }
@@ -148,9 +138,7 @@ impl<'a> Held<'a> {
         ensures { result ≡ bool_of self.now }
     {
         match &self.inner {
-            Inner::Bool(truth) => Some(*truth),
-            Inner::Lent(value) => value_bool(value),
-            Inner::Shared(value) => value_bool(value.get()),
+            Inner::Plain(value) => value.as_bool(),
             _ => None,
         }
     }
@@ -160,19 +148,17 @@ impl<'a> Held<'a> {
         ensures { option_copied result ≡ bytes_of_datum self.now }
     {
         match &self.inner {
-            Inner::Text(bytes) => Some(*bytes),
-            Inner::Lent(value) => value_bytes(value),
-            Inner::Shared(value) => value_bytes(value.get()),
+            Inner::Plain(value) => value.as_bytes(),
             _ => None,
         }
     }
 
     /// The object that it is.
-    pub fn as_object(&self) -> Option<&'a Object>
+    pub fn as_object(&self) -> Option<&SharedObject<'a>>
         ensures { option_copied result ≡ object_of_datum self.now }
     {
         match &self.inner {
-            Inner::One(object) => Some(*object),
+            Inner::One(object) => Some(object),
             _ => None,
         }
     }
@@ -182,10 +168,8 @@ impl<'a> Held<'a> {
         ensures { result ≡ length_of self.now }
     {
         match &self.inner {
-            Inner::Text(bytes) => Some(bytes.len()),
-            Inner::Lent(value) => value_length(value),
-            Inner::Shared(value) => value_length(value.get()),
-            Inner::Many(objects) => Some(objects.len()),
+            Inner::Plain(value) => value.length(),
+            Inner::Many(objects) => Some(objects.as_ref().len()),
             _ => None,
         }
     }
@@ -195,36 +179,72 @@ impl<'a> Held<'a> {
         ensures { result ≡ is_some (items_of self.now) }
     {
         match &self.inner {
-            Inner::Lent(value) => is_list(value),
-            Inner::Shared(value) => is_list(value.get()),
+            Inner::Plain(value) => value.is_list(),
             Inner::Many(_) => true,
             _ => false,
         }
     }
 
     /// The item at a place, where it is a list or objects and has one there.
-    pub fn item(&self, alloc: Global, place: usize) -> Result<Option<Held<'a>>, Memory>
+    pub fn item(&self, place: usize) -> Result<Option<Held<'a>>, Memory>
         ensures { IfOk result (λ item. item ≡ item_of_datum self.now place) }
     {
         match &self.inner {
-            Inner::Lent(value) => Ok(lent_item(*value, place)),
-            Inner::Shared(value) => shared_item(alloc, value.get(), place),
-            Inner::Many(objects) => Ok(object_at(objects, place)),
+            Inner::Plain(value) => item_in(value, place),
+            Inner::Many(objects) => kept_at(objects.as_ref().as_slice(), place),
             _ => Ok(None),
         }
     }
 
-    /// The value that it is, copied where it is lent or held once more.
+    /// The value that it is.
+    pub fn into_shared(self) -> Option<Shared<'a>>
+        ensures { result ≡ plain_of self.entry }
+    {
+        match self.inner {
+            Inner::Plain(value) => Some(value),
+            _ => None,
+        }
+    }
+
+    /// The value that it is, by itself.
     pub fn value(self, alloc: Global) -> Result<Option<Value>, Memory>
         ensures { IfOk result (λ value. value ≡ plain_of self.entry) }
     {
         match self.inner {
-            Inner::Int(number) => Ok(Some(Value::Int(number))),
-            Inner::Bool(truth) => Ok(Some(Value::Bool(truth))),
-            Inner::Text(bytes) => Ok(Some(bytes_value(alloc, bytes)?)),
-            Inner::Lent(value) => Ok(Some(value.copy(alloc)?)),
-            Inner::Shared(value) => Ok(Some(value.into_value(alloc)?)),
+            Inner::Plain(value) => Ok(Some(value_of(alloc, &value)?)),
             _ => Ok(None),
         }
+    }
+}
+
+/// The item of a list at a place.
+fn item_in<'a>(value: &Shared<'a>, place: usize) -> Result<Option<Held<'a>>, Memory>
+    ensures { IfOk result (λ item. item ≡ item_of_datum (Plain value.now) place) }
+{
+    match value.open() {
+        Open::List(items) => shared_at(items, place),
+        _ => Ok(None),
+    }
+}
+
+/// A value at a place.
+fn shared_at<'a>(items: &[Shared<'a>], place: usize) -> Result<Option<Held<'a>>, Memory>
+    ensures { IfOk result (λ item. item ≡ plain_item (slice_get items.now place)) }
+{
+    match items.get(place) {
+        Some(item) => Ok(Some(Held::plain(item.share()?))),
+        None => Ok(None),
+    }
+}
+
+/// An object at a place.
+fn kept_at<'a>(objects: &[SharedObject<'a>], place: usize) -> Result<Option<Held<'a>>, Memory>
+    ensures { IfOk result (λ item. item ≡ object_item (slice_get objects.now place)) }
+{
+    match objects.get(place) {
+        Some(object) => Ok(Some(Held {
+            inner: Inner::One(object.share()?),
+        })),
+        None => Ok(None),
     }
 }

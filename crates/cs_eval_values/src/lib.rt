@@ -1,5 +1,5 @@
-//! What the checks of contracts work on: values and objects that are lent where they can be,
-//! operators and their traps, names, and views.
+//! What the checks of contracts work on: values and objects that are shared, operators and their
+//! traps, names, and views.
 #![tactic(auto)]
 
 mod arithmetic;
@@ -10,10 +10,8 @@ mod limits;
 mod names;
 mod objects;
 mod operators;
-mod shared;
 mod steps;
 mod stop;
-mod values;
 mod view;
 
 pub use fields::{field_of, is_called, returned_int};
@@ -23,7 +21,7 @@ pub use limits::MOST_VALUE;
 pub use names::Names;
 pub use objects::Objects;
 pub use operators::{
-    Binary, Unary, apply_binary, apply_unary, decides, list_of, number, with_item,
+    Binary, Unary, apply_binary, apply_unary, decides, list_of, number, with_item, with_value,
 };
 pub use steps::Steps;
 pub use stop::{Cause, Stop};

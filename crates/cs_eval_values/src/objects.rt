@@ -1,9 +1,12 @@
 //! Objects, wherever they stand.
-ghost use Rattle.std.specs.Prelude.{◌≡◌, length, map, slice_get, take, drop};
+ghost use Rattle.std.specs.Prelude.{◌≡◌, length, map, slice_get, take, drop, IfOk};
 ghost use Rattle.std.specs.Option.{option_copied};
 ghost use Rattle.cs_eval_values.specs.Lending.{lent_object};
 
+use cs_base::{Memory, Sequence};
+use cs_eval_shared::SharedObject;
 use cs_tx_value::{Digest, Object};
+use std::alloc::Global;
 use std::marker::Model;
 
 /// Objects that are lent.
@@ -104,4 +107,20 @@ impl<'a> Objects<'a> {
             Placed::Keyed(objects) => Objects::keyed(objects.split_at(count.min(objects.len())).1),
         }
     }
+}
+
+/// The objects, with their values ready to be shared.
+pub fn kept_each<'a>(
+    alloc: Global,
+    objects: &Objects<'a>,
+) -> Result<Sequence<SharedObject<'a>>, Memory>
+    ensures { IfOk result (λ kept. kept ≡ objects.now) }
+{
+    let mut kept = Sequence::new(alloc);
+    for i in 0..objects.len() {
+        if let Some(object) = objects.get(i) {
+            kept.push(SharedObject::new(alloc, object)?)?;
+        }
+    }
+    Ok(kept)
 }

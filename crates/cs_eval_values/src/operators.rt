@@ -1,5 +1,5 @@
 //! Operators on what is held.
-ghost use Rattle.std.specs.Prelude.{◌≡◌, OnOk};
+ghost use Rattle.std.specs.Prelude.{◌≡◌, ◌++◌, OnOk};
 ghost use Rattle.std.specs.Str.{bytes_eq};
 ghost use Rattle.cs_tx_value.specs.declared.value.Value.{out-Value};
 ghost use Rattle.cs_eval_values.specs.Datums.{bool_of, bytes_of_datum, int_of};
@@ -12,11 +12,11 @@ use crate::arithmetic::{compare, compute, negate};
 use crate::held::Held;
 use crate::limits::MOST_VALUE;
 use crate::stop::{Cause, Stop};
-use crate::values::bytes_value;
-use cs_base::Sequence;
+use cs_base::{Memory, Sequence};
+use cs_eval_shared::{Open, Shared};
 use cs_lang::{Comparison, Operator};
 use cs_lang_token::{MOST_BYTES, MOST_ITEMS};
-use cs_tx_value::{Encoded, Value};
+use cs_tx_value::Value;
 use sha2::{Digest, Sha256};
 use std::alloc::Global;
 
@@ -56,38 +56,57 @@ fn given_bool(held: &Held<'_>, place: usize) -> Result<bool, Stop>
     }
 }
 
-fn given_value(alloc: Global, held: Held<'_>, place: usize) -> Result<Value, Stop>
+fn given_value<'a>(held: Held<'a>, place: usize) -> Result<Shared<'a>, Stop>
     ensures { RunEnds result (given_value place held.entry) }
 {
-    match held.value(alloc)? {
+    match held.into_shared() {
         Some(value) => Ok(value),
         None => Err(Stop::Trap(Cause::Misfit, place)),
     }
 }
 
 /// The list of the items, where its encoding isn't too long.
-pub fn list_of<'a>(alloc: Global, items: Sequence<Value>, place: usize) -> Result<Held<'a>, Stop>
-    ensures { RunEnds result (list_run items place) }
+pub fn list_of<'a>(
+    alloc: Global,
+    items: Sequence<Shared<'a>>,
+    place: usize,
+) -> Result<Held<'a>, Stop>
+    ensures { RunEnds result (list_run items.entry place) }
 {
-    let list = Value::List(items);
-    if list.room(MOST_VALUE).is_none() {
-        return Err(Stop::Trap(Cause::Size, place));
+    match Shared::list(alloc, items, MOST_VALUE)? {
+        Some(list) => Ok(Held::plain(list)),
+        None => Err(Stop::Trap(Cause::Size, place)),
     }
-    Ok(Held::own(alloc, list)?)
 }
 
-/// Adds an item.
-pub fn with_item(
+/// Adds an item, which is shared.
+pub fn with_item<'a>(
+    items: Sequence<Shared<'a>>,
+    item: Held<'a>,
+    place: usize,
+) -> Result<Sequence<Shared<'a>>, Stop>
+    ensures { RunEnds result (item_run place items.entry item.entry) }
+{
+    let mut items = items;
+    items.push(given_value(item, place)?)?;
+    Ok(items)
+}
+
+/// Adds a value by itself.
+pub fn with_value(
     alloc: Global,
-    items: Sequence<Value>,
+    values: Sequence<Value>,
     item: Held<'_>,
     place: usize,
 ) -> Result<Sequence<Value>, Stop>
-    ensures { RunEnds result (item_run place items item.entry) }
+    ensures { RunEnds result (item_run place values item.entry) }
 {
-    let mut items = items;
-    items.push(given_value(alloc, item, place)?)?;
-    Ok(items)
+    let mut values = values;
+    match item.value(alloc)? {
+        Some(value) => values.push(value)?,
+        None => return Err(Stop::Trap(Cause::Misfit, place)),
+    }
+    Ok(values)
 }
 
 /// A number, where it is an int.
@@ -115,7 +134,11 @@ fn hash<'a>(alloc: Global, held: &Held<'a>, place: usize) -> Result<Held<'a>, St
     ensures { RunEnds result (unary Unary.Sha256 place held.now) }
 {
     match held.as_bytes() {
-        Some(bytes) => Ok(Held::own(alloc, bytes_value(alloc, &Sha256::digest(bytes))?)?),
+        Some(bytes) => {
+            let digest: [u8; 32] = Sha256::digest(bytes);
+            let bytes = Sequence::from_vec(Vec::from_slice(alloc, digest.as_slice())?);
+            Ok(Held::plain(Shared::bytes(alloc, bytes)?))
+        }
         None => Err(Stop::Trap(Cause::Misfit, place)),
     }
 }
@@ -138,48 +161,57 @@ pub fn apply_unary<'a>(
 }
 
 /// Bytes one behind the other.
-fn join_bytes<'a>(
-    alloc: Global,
-    front: Sequence<u8>,
-    back: &[u8],
-    place: usize,
-) -> Result<Held<'a>, Stop>
-    ensures { RunEnds result (joined_bytes front back.now place) }
+fn join_bytes<'a>(alloc: Global, front: &[u8], back: &[u8], place: usize) -> Result<Held<'a>, Stop>
+    ensures { RunEnds result (joined_bytes front.now back.now place) }
 {
     if back.len() > MOST_BYTES || front.len() > MOST_BYTES - back.len() {
         return Err(Stop::Trap(Cause::Length, place));
     }
-    let mut bytes = front.into_vec();
+    let mut bytes = Vec::with_capacity(alloc, front.len() + back.len())?;
+    bytes.extend_from_slice(front)?;
     bytes.extend_from_slice(back)?;
-    Ok(Held::own(alloc, Value::Bytes(Sequence::from_vec(bytes)))?)
+    Ok(Held::plain(Shared::bytes(alloc, Sequence::from_vec(bytes))?))
+}
+
+/// Adds items, which are shared.
+fn put_items<'a>(items: &mut Vec<Shared<'a>>, more: &[Shared<'a>]) -> Result<(), Memory>
+    ensures { OnOk result (items.new.items ≡ items.old.items ++ more.now) }
+{
+    for item in more {
+        items.push(item.share()?)?;
+    }
+    Ok(())
 }
 
 /// Lists one behind the other.
 fn join_lists<'a>(
     alloc: Global,
-    front: Sequence<Value>,
-    back: Sequence<Value>,
+    front: &[Shared<'a>],
+    back: &[Shared<'a>],
     place: usize,
 ) -> Result<Held<'a>, Stop>
-    ensures { RunEnds result (joined_lists front back place) }
+    ensures { RunEnds result (joined_lists front.now back.now place) }
 {
     if back.len() > MOST_ITEMS || front.len() > MOST_ITEMS - back.len() {
         return Err(Stop::Trap(Cause::Length, place));
     }
-    let mut items = front.into_vec();
-    let mut back = back.into_vec();
-    items.append(&mut back)?;
+    let mut items = Vec::with_capacity(alloc, front.len() + back.len())?;
+    put_items(&mut items, front)?;
+    put_items(&mut items, back)?;
     list_of(alloc, Sequence::from_vec(items), place)
 }
 
-fn join_values<'a>(alloc: Global, front: Value, back: Value, place: usize) -> Result<Held<'a>, Stop>
-    ensures { RunEnds result (joined_layers (out-Value front) (out-Value back) place) }
+fn join_values<'a>(
+    alloc: Global,
+    front: &Shared<'a>,
+    back: &Shared<'a>,
+    place: usize,
+) -> Result<Held<'a>, Stop>
+    ensures { RunEnds result (joined_layers (out-Value front.now) (out-Value back.now) place) }
 {
-    match (front, back) {
-        (Value::Bytes(front), Value::Bytes(back)) => {
-            join_bytes(alloc, front, back.as_slice(), place)
-        }
-        (Value::List(front), Value::List(back)) => join_lists(alloc, front, back, place),
+    match (front.open(), back.open()) {
+        (Open::Bytes(front), Open::Bytes(back)) => join_bytes(alloc, front, back, place),
+        (Open::List(front), Open::List(back)) => join_lists(alloc, front, back, place),
         _ => Err(Stop::Trap(Cause::Misfit, place)),
     }
 }
@@ -188,9 +220,9 @@ fn join_values<'a>(alloc: Global, front: Value, back: Value, place: usize) -> Re
 fn join<'a>(alloc: Global, front: Held<'a>, back: Held<'a>, place: usize) -> Result<Held<'a>, Stop>
     ensures { RunEnds result (joined place front.entry back.entry) }
 {
-    let front = given_value(alloc, front, place)?;
-    let back = given_value(alloc, back, place)?;
-    join_values(alloc, front, back, place)
+    let front = given_value(front, place)?;
+    let back = given_value(back, place)?;
+    join_values(alloc, &front, &back, place)
 }
 
 /// Whether two bytes are one.
@@ -298,7 +330,7 @@ fn link<'a>(
 
 /// The item at a place.
 #[tactic(auto, using(crate::proofs::Items::item_among))]
-fn index<'a>(alloc: Global, held: &Held<'a>, at: &Held<'a>, place: usize) -> Result<Held<'a>, Stop>
+fn index<'a>(held: &Held<'a>, at: &Held<'a>, place: usize) -> Result<Held<'a>, Stop>
     ensures { RunEnds result (indexed place held.now at.now) }
 {
     if !held.has_items() {
@@ -308,7 +340,7 @@ fn index<'a>(alloc: Global, held: &Held<'a>, at: &Held<'a>, place: usize) -> Res
     if at < 0 {
         return Err(Stop::Trap(Cause::Place, place));
     }
-    match held.item(alloc, at as usize)? {
+    match held.item(at as usize)? {
         Some(item) => Ok(item),
         None => Err(Stop::Trap(Cause::Place, place)),
     }
@@ -328,6 +360,6 @@ pub fn apply_binary<'a>(
         Binary::Concat => join(alloc, left, right, place),
         Binary::Compared(comparison) => comparison_of(comparison, &left, &right, place),
         Binary::Linked(operator) => link(operator, &left, &right, place),
-        Binary::Index => index(alloc, &left, &right, place),
+        Binary::Index => index(&left, &right, place),
     }
 }

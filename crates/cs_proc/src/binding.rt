@@ -10,7 +10,7 @@ use cs_eval_values::{Cause, Held, Names};
 use cs_lang::{Field, Text};
 use cs_proc_parts::{Doing, Ending, Halt, Progress};
 use cs_tx_types::Trace;
-use cs_tx_value::{Encoded, Value};
+use cs_tx_value::Value;
 use cs_types_kinds::kind_of;
 use std::alloc::Global;
 
@@ -52,8 +52,8 @@ fn bind_name<'a>(
     match (field, value) {
         (Some(field), Some(value)) => match kind_of(&field.kind) {
             Some(kind) => {
-                let held = Held::own(alloc, value.copy(alloc)?)?;
-                names.add(name.bytes.as_slice(), kind, held)?;
+                let held = Held::own(alloc, value)?;
+                names.add(name.bytes.as_slice(), name.place, kind, held)?;
                 Ok(true)
             }
             None => Ok(false),

@@ -15,7 +15,7 @@ use crate::procedures_running::Running;
 use cs_base::{Memory, Sequence};
 use cs_eval::{Scene, evaluate, expr_places, kind_given};
 use cs_eval_check::{Loop, Source, Task, item};
-use cs_eval_values::{Cause, Held, Steps, with_item};
+use cs_eval_values::{Cause, Held, Steps, with_value};
 use cs_lang::{Block, Expr, Statement, Text};
 use cs_lang_token::{MOST_ITEMS, MOST_TURNS};
 use cs_proc_parts::{Ending, Halt};
@@ -105,7 +105,10 @@ pub fn let_name<'a, L: Ledger>(
         return Err(misfit(name.place));
     };
     let held = value(scene, running, expression, steps)?;
-    running.doing.names.add(name.bytes.as_slice(), kind, held)?;
+    running
+        .doing
+        .names
+        .add(name.bytes.as_slice(), name.place, kind, held)?;
     Ok(())
 }
 
@@ -126,7 +129,10 @@ pub fn set_name<'a, L: Ledger>(
     ensures tasks { running.new.tasks.items ≡ running.old.tasks.items }
 {
     let held = value(scene, running, expression, steps)?;
-    running.doing.names.set(name.bytes.as_slice(), held);
+    running
+        .doing
+        .names
+        .set(name.bytes.as_slice(), name.place, held);
     Ok(())
 }
 
@@ -216,6 +222,7 @@ pub fn for_in<'a, L: Ledger>(
     }
     running.tasks.push_growing(Task::Loop(Loop {
         name: name.bytes.as_slice(),
+        offset: name.place,
         kind,
         each,
         source: Source::Items(held),
@@ -244,6 +251,7 @@ pub fn for_to<'a>(
 {
     running.tasks.push_growing(Task::Loop(Loop {
         name: name.bytes.as_slice(),
+        offset: name.place,
         kind: INT,
         each,
         source: Source::Numbers(count.min(MOST_TURNS) as u16),
@@ -268,13 +276,14 @@ pub fn turn<'a, L: Ledger>(
     ensures smaller { OnOk result (tasks_work running.new.tasks.items
         < loop_work looping.entry + tasks_work running.old.tasks.items) }
 {
-    let Some(held) = item(scene, &looping.source, looping.at)? else {
+    let Some(held) = item(&looping.source, looping.at)? else {
         return Ok(());
     };
     steps.spend(1);
     let names = running.doing.names.len();
     let Loop {
         name,
+        offset,
         kind,
         each,
         source,
@@ -282,12 +291,13 @@ pub fn turn<'a, L: Ledger>(
     } = looping;
     running.tasks.push_growing(Task::Loop(Loop {
         name,
+        offset,
         kind,
         each,
         source,
         at: at + 1,
     }))?;
-    running.doing.names.add(name, kind, held)?;
+    running.doing.names.add(name, offset, kind, held)?;
     enter(running, each.statements.as_slice(), names)
 }
 
@@ -309,7 +319,7 @@ fn argument<'a, L: Ledger>(
     ensures tasks { running.new.tasks.items ≡ running.old.tasks.items }
 {
     let held = value(scene, running, expression, steps)?;
-    match with_item(scene.alloc, values, held, place) {
+    match with_value(scene.alloc, values, held, place) {
         Ok(values) => Ok(values),
         Err(stop) => Err(Halt::from(stop)),
     }

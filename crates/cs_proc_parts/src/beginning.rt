@@ -10,7 +10,7 @@ use crate::progress::{Doing, Front, Opened, Progress};
 use cs_base::{Memory, Sequence};
 use cs_eval_values::{Held, Names, fill_slot, has_kind};
 use cs_lang::{Field, Method, Slot, TypeDef};
-use cs_tx_value::{Digest, Encoded, Value};
+use cs_tx_value::{Digest, Value};
 use cs_types_kinds::{Base, Kind, kind_of};
 use std::alloc::Global;
 
@@ -24,6 +24,7 @@ struct Begun<'a> {
 
 /// Fills slots from the front, and answers how many objects they take.
 fn take<'a>(
+    alloc: Global,
     contract: &Digest,
     types: &[TypeDef],
     slots: &'a [Slot],
@@ -35,7 +36,7 @@ fn take<'a>(
 {
     let mut left = keyed.objects();
     for slot in slots {
-        match fill_slot(contract, types, slot, &left, names)? {
+        match fill_slot(alloc, contract, types, slot, &left, names)? {
             Some(count) => left = left.behind(count),
             None => return Ok(None),
         }
@@ -58,8 +59,8 @@ fn fill_argument<'a>(
             if !has_kind(Some(kind), argument) {
                 return Ok(false);
             }
-            let held = Held::own(alloc, argument.copy(alloc)?)?;
-            names.add(field.name.bytes.as_slice(), kind, held)?;
+            let held = Held::own(alloc, argument)?;
+            names.add(field.name.bytes.as_slice(), field.name.place, kind, held)?;
             Ok(true)
         }
         None => Ok(false),
@@ -105,8 +106,8 @@ fn start_field<'a>(alloc: Global, field: &'a Field, names: &mut Names<'a>) -> Re
 {
     match kind_of(&field.kind) {
         Some(kind) => {
-            let held = Held::own(alloc, zero_of(alloc, kind))?;
-            names.add(field.name.bytes.as_slice(), kind, held)?;
+            let held = Held::own(alloc, &zero_of(alloc, kind))?;
+            names.add(field.name.bytes.as_slice(), field.name.place, kind, held)?;
             Ok(true)
         }
         None => Ok(false),
@@ -143,10 +144,19 @@ fn begin<'a>(
 {
     let mut names = Names::new(alloc);
     let consumes = method.consumes.as_slice();
-    let Some(inputs) = take(contract, types, consumes, &progress.inputs, &mut names)? else {
+    let Some(inputs) = take(
+        alloc,
+        contract,
+        types,
+        consumes,
+        &progress.inputs,
+        &mut names,
+    )?
+    else {
         return Ok(None);
     };
     let Some(reads) = take(
+        alloc,
         contract,
         types,
         method.reads.as_slice(),

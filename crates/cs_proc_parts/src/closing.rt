@@ -13,10 +13,15 @@ use cs_tx_value::{Digest, Name, Value};
 use std::alloc::Global;
 
 /// The value of a name.
-fn value_named(alloc: Global, names: &Names<'_>, name: &[u8]) -> Result<Option<Value>, Memory>
+fn value_named(
+    alloc: Global,
+    names: &Names<'_>,
+    name: &[u8],
+    offset: usize,
+) -> Result<Option<Value>, Memory>
     ensures { IfOk result (λ value. value ≡ value_named names.now name.now) }
 {
-    match names.find(name)? {
+    match names.find(name, offset)? {
         Some(held) => held.value(alloc),
         None => Ok(None),
     }
@@ -32,7 +37,7 @@ fn values_returned(
 {
     let mut values = Sequence::new(alloc);
     for field in fields {
-        match value_named(alloc, names, field.name.bytes.as_slice())? {
+        match value_named(alloc, names, field.name.bytes.as_slice(), field.name.place)? {
             Some(value) => values.push(value)?,
             None => return Ok(None),
         }

@@ -7,6 +7,7 @@ use crate::declarations::check_types;
 use crate::methods::methods;
 use cs_base::Sequence;
 use cs_lang::{Contract, ContractTree};
+use cs_lang_names::Numbers;
 use cs_lang_token::MOST_COST;
 use cs_types_kinds::{Costs, TypeError};
 use std::alloc::Global;
@@ -18,6 +19,7 @@ use std::marker::Model;
 pub struct Checked {
     contract: Contract,
     costs: Sequence<Costs>,
+    numbers: Numbers,
 }
 
 impl Model for Checked {
@@ -43,6 +45,11 @@ impl Checked {
         ensures accepted { IsAccepted self.now }
     {
         &self.contract
+    }
+
+    /// The numbers of its names, which say nothing of it: they spare searching.
+    pub fn numbers(&self) -> &Numbers {
+        &self.numbers
     }
 
     /// The costs of its methods, in their order.
@@ -87,5 +94,12 @@ pub fn accept(alloc: Global, contract: Contract) -> Result<Checked, TypeError>
     if let Some(cost) = first_dear(costs.as_slice()) {
         return Err(TypeError::Cost(cost));
     }
-    Ok(Checked { contract, costs })
+    let Ok(numbers) = Numbers::of(alloc, contract.tree()) else {
+        return Err(TypeError::Memory);
+    };
+    Ok(Checked {
+        contract,
+        costs,
+        numbers,
+    })
 }

@@ -1,8 +1,10 @@
-use Rattle.std.proofs.Common.{arith}
-use Rattle.cs_eval_values.proofs.Naming.{set_none}
+use Rattle.std.proofs.Common.{map}
+use Rattle.cs_eval_values.specs.Entries.{named_of}
+use Rattle.cs_eval_values.specs.Firsts.{numbers_of}
+use Rattle.cs_eval_values.proofs.Firsting.{put_kept}
 use Rattle.cs_eval_values.proofs.names.Names.set.Goals as goal
 
-pub returns-else-place-len : goal.returns-else-place-len
-returns-else-place-len c =
-    set_none c.args.name.now c.args.held c.args.self.now c.self.inside.entries.items c.place-place.result
-    (cc (c.self.view_is)) c.place-place.ensures (omega (arith, c.len.ensures, c.if-place-len.false))
+pub invariant_of-self : goal.invariant_of-self
+invariant_of-self c =
+    put_kept (numbers_of c.self.inside.numbers) c.self.inside.firsts.items (map named_of c.self.inside.entries.items) _
+    c.args.name.now c.args.held c.self.invariant c.put.ensures

@@ -1,0 +1,3 @@
+mod ExprCells
+mod BlockCells
+pub mod Celled
