@@ -4,6 +4,7 @@ pub mod Settling
 pub mod Standing
 pub mod Doing
 pub mod Heard
+pub mod Judged
 pub mod Ticked
 pub mod Candidates
 pub mod Executing

@@ -20,6 +20,7 @@ use crate::executions::execute;
 use crate::handing::hand_out;
 use cs_base::{Memory, Sequence};
 use cs_check_rules::KEPT_SLOTS;
+use cs_docket::Docket;
 use cs_node_wire::{Carried, propose_entry, read_entry};
 use cs_order::{May, Order, Outgoing, Proposed, Step};
 use cs_sbac::Sbac;
@@ -32,7 +33,7 @@ use std::alloc::Global;
 #[derive(Drop)]
 pub struct Engine<O: Order, J: Judge + Drop> {
     pub(crate) order: O,
-    pub(crate) judge: J,
+    pub(crate) judge: Docket<J>,
     pub(crate) sbac: Sbac,
 }
 
@@ -121,41 +122,13 @@ impl<O: Carried, J: Judge + Drop> Engine<O, J> {
         ensures falls { IfOk result (λ went. went ≡ true →
             O.rest self.new.order < O.rest self.old.order) }
     {
-        if self.admits_pending(alloc)? {
+        if admits_pending(alloc, &self.order, &self.sbac, &mut self.judge)? {
             let mut outgoing = Vec::new(alloc);
             self.order.echo(alloc, &mut outgoing)?;
             hand_out::<O>(alloc, &self.sbac, draft, outgoing)?;
             return Ok(true);
         }
         self.propose(alloc, draft)
-    }
-
-    /// Whether the node admits the pending proposal.
-    fn admits_pending(&self, alloc: Global) -> Result<bool, Memory>
-        ensures awaits { (h : Member O.Message) → O.stands self.now.order h →
-            O.awaits self.now.order ≡ O.rules.pending h }
-        ensures admitted { (genesis : List AnyObject) →
-            let setup = deployed_setup self.now.sbac.config genesis (J.is_approved self.now.judge) in
-            let held = self.now.sbac in
-            let pending = O.awaits self.now.order in
-            IfOk result (λ yes. yes ≡ admits_pending setup held.me.shard held.pool pending) }
-    {
-        match self.order.pending() {
-            None => Ok(false),
-            Some(proposed) => self.admits(alloc, proposed),
-        }
-    }
-
-    fn admits(&self, alloc: Global, proposed: &Proposed) -> Result<bool, Memory>
-        ensures { (genesis : List AnyObject) →
-            let setup = deployed_setup self.now.sbac.config genesis (J.is_approved self.now.judge) in
-            let held = self.now.sbac in
-            IfOk result (λ yes. yes ≡ pool_admits setup held.me.shard held.pool proposed.now) }
-    {
-        match read_entry(alloc, proposed, self.sbac.version())? {
-            None => Ok(false),
-            Some(entry) => self.sbac.admits(alloc, &entry, &self.judge),
-        }
     }
 
     /// Proposes, where the order lets the node propose.
@@ -206,7 +179,7 @@ impl<O: Carried, J: Judge + Drop> Engine<O, J> {
         ensures falls { IfOk result (λ went. went ≡ true →
             O.rest self.new.order < O.rest self.old.order) }
     {
-        match self.first_admitted(alloc, &candidates)? {
+        match first_admitted(alloc, &self.sbac, &mut self.judge, &candidates)? {
             None => Ok(false),
             Some(proposed) => {
                 let mut outgoing = Vec::new(alloc);
@@ -216,25 +189,69 @@ impl<O: Carried, J: Judge + Drop> Engine<O, J> {
             }
         }
     }
+}
 
-    fn first_admitted(
-        &self,
-        alloc: Global,
-        candidates: &Sequence<Proposed>,
-    ) -> Result<Option<Proposed>, Memory>
-        ensures { (genesis : List AnyObject) →
-            let setup = deployed_setup self.now.sbac.config genesis (J.is_approved self.now.judge) in
-            let held = self.now.sbac in
-            let found = first_admitted setup held.me.shard held.pool candidates.now in
-            IfOk result (λ first. first ≡ found) }
-    {
-        for proposed in candidates.as_slice() {
-            if self.admits(alloc, proposed)? {
-                return Ok(Some(proposed.copy(alloc)?));
-            }
-        }
-        Ok(None)
+// Whether the node admits a proposal.
+fn admits_proposed<J: Judge + Drop>(
+    alloc: Global,
+    sbac: &Sbac,
+    judge: &mut Docket<J>,
+    proposed: &Proposed,
+) -> Result<bool, Memory>
+    ensures admits { (genesis : List AnyObject) →
+        let setup = deployed_setup sbac.now.config genesis (J.is_approved judge.old) in
+        let held = sbac.now in
+        IfOk result (λ yes. yes ≡ pool_admits setup held.me.shard held.pool proposed.now) }
+    ensures judge { judge.new ≡ judge.old }
+{
+    match read_entry(alloc, proposed, sbac.version())? {
+        None => Ok(false),
+        Some(entry) => sbac.admits(alloc, &entry, judge),
     }
+}
+
+// Whether the node admits the pending proposal.
+fn admits_pending<O: Order, J: Judge + Drop>(
+    alloc: Global,
+    order: &O,
+    sbac: &Sbac,
+    judge: &mut Docket<J>,
+) -> Result<bool, Memory>
+    ensures awaits { (h : Member O.Message) → O.stands order.now h →
+        O.awaits order.now ≡ O.rules.pending h }
+    ensures admits { (genesis : List AnyObject) →
+        let setup = deployed_setup sbac.now.config genesis (J.is_approved judge.old) in
+        let held = sbac.now in
+        let pending = O.awaits order.now in
+        IfOk result (λ yes. yes ≡ admits_pending setup held.me.shard held.pool pending) }
+    ensures judge { judge.new ≡ judge.old }
+{
+    match order.pending() {
+        None => Ok(false),
+        Some(proposed) => admits_proposed(alloc, sbac, judge, proposed),
+    }
+}
+
+// The first candidate that the node admits.
+fn first_admitted<J: Judge + Drop>(
+    alloc: Global,
+    sbac: &Sbac,
+    judge: &mut Docket<J>,
+    candidates: &Sequence<Proposed>,
+) -> Result<Option<Proposed>, Memory>
+    ensures first { (genesis : List AnyObject) →
+        let setup = deployed_setup sbac.now.config genesis (J.is_approved judge.old) in
+        let held = sbac.now in
+        let found = first_admitted setup held.me.shard held.pool candidates.now in
+        IfOk result (λ first. first ≡ found) }
+    ensures judge { judge.new ≡ judge.old }
+{
+    for proposed in candidates.as_slice() {
+        if admits_proposed(alloc, sbac, judge, proposed)? {
+            return Ok(Some(proposed.copy(alloc)?));
+        }
+    }
+    Ok(None)
 }
 
 // Notes the view that was entered, if one was.

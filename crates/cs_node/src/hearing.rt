@@ -64,7 +64,14 @@ impl<O: Carried, J: Judge + Drop> Engine<O, J> {
     {
         match message {
             Message::Submit(session) => {
-                submit(alloc, &mut self.sbac, &self.judge, draft, sender, session)
+                submit(
+                    alloc,
+                    &mut self.sbac,
+                    &mut self.judge,
+                    draft,
+                    sender,
+                    session,
+                )
             }
             Message::Ask(key) => ask(alloc, &self.sbac, draft, sender, key),
             Message::AskProof {
@@ -80,7 +87,7 @@ impl<O: Carried, J: Judge + Drop> Engine<O, J> {
                 hear_vote(
                     alloc,
                     &mut self.sbac,
-                    &self.judge,
+                    &mut self.judge,
                     draft,
                     ballot,
                     asks,

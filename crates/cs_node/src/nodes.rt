@@ -25,6 +25,7 @@ use crate::node_core::{Core, OwnKeys};
 use crate::outs::{Made, seal_draft};
 use cs_base::{Config, Key, Memory, NodeId};
 use cs_check::{Chain, root_is_shown};
+use cs_docket::Docket;
 use cs_node_wire::Carried;
 use cs_order::Order;
 use cs_sbac::Sbac;
@@ -87,6 +88,7 @@ impl<O: Carried, J: Judge + Drop> Core<O, J> {
         };
         root_is_shown(&table);
         let sbac = Sbac::new(alloc, config, me, table)?;
+        let judge = Docket::new(alloc, judge);
         let engine = Engine { order, judge, sbac };
         let own = OwnKeys { keys };
         Ok(Core { own, engine })

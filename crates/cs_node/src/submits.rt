@@ -8,6 +8,7 @@ ghost use Rattle.cs_node.specs.Signing.{Does};
 
 use crate::draft::Draft;
 use cs_base::{Memory, NodeId};
+use cs_docket::Docket;
 use cs_node_rules::Cause;
 use cs_sbac::{Entered, Sbac};
 use cs_tx::{Digest, Judge, Session, session_digest};
@@ -15,10 +16,10 @@ use cs_wire_message::Message;
 use std::alloc::Global;
 
 // A session that is undecided waits in the pool, where it is new, approved, and has room.
-fn enter<J: Judge>(
+fn enter<J: Judge + Drop>(
     alloc: Global,
     sbac: &mut Sbac,
-    judge: &J,
+    judge: &mut Docket<J>,
     draft: &mut Draft,
     session: Session,
     digest: Digest,
@@ -26,8 +27,9 @@ fn enter<J: Judge>(
     requires fits { SessionFits session }
     requires formed { IsFit sbac.old session }
     requires named { digest ≡ digest_of_session session }
-    ensures { Does (J.is_approved judge.now) sbac.old sbac.new draft.old draft.new result
+    ensures does { Does (J.is_approved judge.old) sbac.old sbac.new draft.old draft.new result
         (λ setup b. entering_signs setup b session) }
+    ensures judge { judge.new ≡ judge.old }
 {
     if sbac.pooled(&digest)? {
         return draft.drop_it(Cause::Repeat);
@@ -42,17 +44,18 @@ fn enter<J: Judge>(
 }
 
 /// A client submits a session. The client of one that was decided is told so.
-pub fn submit<J: Judge>(
+pub fn submit<J: Judge + Drop>(
     alloc: Global,
     sbac: &mut Sbac,
-    judge: &J,
+    judge: &mut Docket<J>,
     draft: &mut Draft,
     sender: NodeId,
     session: Session,
 ) -> Result<(), Memory>
     requires { SessionFits session }
-    ensures { Does (J.is_approved judge.now) sbac.old sbac.new draft.old draft.new result
+    ensures does { Does (J.is_approved judge.old) sbac.old sbac.new draft.old draft.new result
         (λ setup b. submit_signs setup sbac.old.me.shard b sender session) }
+    ensures judge { judge.new ≡ judge.old }
 {
     if !sender.is_client() {
         return draft.drop_it(Cause::Role);

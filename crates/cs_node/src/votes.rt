@@ -12,6 +12,7 @@ ghost use Rattle.cs_node.specs.Signing.{Does};
 
 use crate::draft::Draft;
 use cs_base::Memory;
+use cs_docket::Docket;
 use cs_node_rules::Cause;
 use cs_node_state::Ballot;
 use cs_sbac::{Counted, Entered, Sbac};
@@ -20,10 +21,10 @@ use cs_wire_message::Message;
 use std::alloc::Global;
 
 // A session that is new enters with the vote, where it is approved and has room.
-fn enter_voted<J: Judge>(
+fn enter_voted<J: Judge + Drop>(
     alloc: Global,
     sbac: &mut Sbac,
-    judge: &J,
+    judge: &mut Docket<J>,
     draft: &mut Draft,
     ballot: Ballot,
     session: Session,
@@ -33,9 +34,10 @@ fn enter_voted<J: Judge>(
     requires formed { IsFit sbac.old session }
     requires named { digest ≡ digest_of_session session }
     requires new { found (digest_of_session session) sbac.old.pool ≡ None }
-    ensures { Does (J.is_approved judge.now) sbac.old sbac.new draft.old draft.new result
+    ensures does { Does (J.is_approved judge.old) sbac.old sbac.new draft.old draft.new result
         (λ setup b. let signs = Took ballot.sender ballot.vote session ∷ Enters session ∷ [] in
         guarded (is_session_approved setup session) Denied (guarded (pool_has_room b.pool) Full signs)) }
+    ensures judge { judge.new ≡ judge.old }
 {
     if !judge.approves(alloc, &session.tx)? {
         return draft.drop_it(Cause::Denied);
@@ -48,10 +50,10 @@ fn enter_voted<J: Judge>(
 
 // A vote on a session that isn't in the pool: one that asks is answered by the vote on record, or
 // the session enters.
-fn answer_vote<J: Judge>(
+fn answer_vote<J: Judge + Drop>(
     alloc: Global,
     sbac: &mut Sbac,
-    judge: &J,
+    judge: &mut Docket<J>,
     draft: &mut Draft,
     ballot: Ballot,
     asks: bool,
@@ -62,9 +64,10 @@ fn answer_vote<J: Judge>(
     requires formed { IsFit sbac.old session }
     requires named { digest ≡ digest_of_session session }
     requires new { found (digest_of_session session) sbac.old.pool ≡ None }
-    ensures { Does (J.is_approved judge.now) sbac.old sbac.new draft.old draft.new result
+    ensures does { Does (J.is_approved judge.old) sbac.old sbac.new draft.old draft.new result
         (λ setup b. let on_record = noted setup sbac.old.me.shard b.table session in
         asking_signs setup b ballot.sender ballot.vote asks session on_record) }
+    ensures judge { judge.new ≡ judge.old }
 {
     if !asks {
         return draft.drop_it(Cause::Unasked);
@@ -83,18 +86,19 @@ fn answer_vote<J: Judge>(
 }
 
 /// Another node votes on a session, and may ask for the vote of this one.
-pub fn hear_vote<J: Judge>(
+pub fn hear_vote<J: Judge + Drop>(
     alloc: Global,
     sbac: &mut Sbac,
-    judge: &J,
+    judge: &mut Docket<J>,
     draft: &mut Draft,
     ballot: Ballot,
     asks: bool,
     session: Session,
 ) -> Result<(), Memory>
     requires { SessionFits session }
-    ensures { Does (J.is_approved judge.now) sbac.old sbac.new draft.old draft.new result
+    ensures does { Does (J.is_approved judge.old) sbac.old sbac.new draft.old draft.new result
         (λ setup b. voted_signs setup sbac.old.me.shard b ballot.sender ballot.vote asks session) }
+    ensures judge { judge.new ≡ judge.old }
 {
     if ballot.sender.is_client() {
         return draft.drop_it(Cause::Role);

@@ -17,6 +17,7 @@ use crate::sbac::Sbac;
 use crate::setting::{concerned_shards, is_fit, is_fit_entry};
 use cs_base::Memory;
 use cs_check::root_is_shown;
+use cs_docket::Docket;
 use cs_node_pool::{Pool, is_decided};
 use cs_table::Effect;
 use cs_tx::{Action, Digest, Entry, Judge, Session, Vote, session_digest};
@@ -62,16 +63,17 @@ fn digest_in(alloc: Global, entry: &Action, known: Option<Digest>) -> Result<Dig
 }
 
 impl Sbac {
-    fn admits_prepare<J: Judge>(
+    fn admits_prepare<J: Judge + Drop>(
         &self,
         alloc: Global,
         session: &Session,
-        judge: &J,
+        judge: &mut Docket<J>,
     ) -> Result<bool, Memory>
         requires { SessionFits session.now }
-        ensures { AtAnyGenesis self.now.config (J.is_approved judge.now) (λ setup.
+        ensures admits { AtAnyGenesis self.now.config (J.is_approved judge.old) (λ setup.
             IfOk result (λ admitted.
             admitted ≡ admits_action setup self.now.me.shard self.now.pool (Prepare session.now))) }
+        ensures judge { judge.new ≡ judge.old }
     {
         let known = self.pool.known(session)?;
         let fit = is_fit(alloc, &self.config, self.me.shard, session, known.is_some())?;
@@ -108,16 +110,17 @@ impl Sbac {
 
     /// Whether the node admits an action: a vote on an approved session, or a decision that the
     /// votes taken on a session of the pool carry.
-    fn admits_action<J: Judge>(
+    fn admits_action<J: Judge + Drop>(
         &self,
         alloc: Global,
         action: &Action,
-        judge: &J,
+        judge: &mut Docket<J>,
     ) -> Result<bool, Memory>
         requires { ActionFits action.now }
-        ensures { AtAnyGenesis self.now.config (J.is_approved judge.now) (λ setup.
+        ensures admits { AtAnyGenesis self.now.config (J.is_approved judge.old) (λ setup.
             IfOk result (λ admitted.
             admitted ≡ admits_action setup self.now.me.shard self.now.pool action.now)) }
+        ensures judge { judge.new ≡ judge.old }
     {
         match action {
             Action::Prepare(session) => self.admits_prepare(alloc, session, judge),
@@ -125,12 +128,19 @@ impl Sbac {
         }
     }
 
-    /// Whether the node admits an entry: each of its actions, as the pool is before all of them.
-    pub fn admits<J: Judge>(&self, alloc: Global, entry: &Entry, judge: &J) -> Result<bool, Memory>
+    /// Whether the node admits an entry: each of its actions, as the pool is before all of them. The
+    /// judge stays the same, but for what is kept of his verdicts.
+    pub fn admits<J: Judge + Drop>(
+        &self,
+        alloc: Global,
+        entry: &Entry,
+        judge: &mut Docket<J>,
+    ) -> Result<bool, Memory>
         requires { AllByRecursion ActionFits entry.now.actions }
-        ensures { AtAnyGenesis self.now.config (J.is_approved judge.now) (λ setup.
+        ensures admits { AtAnyGenesis self.now.config (J.is_approved judge.old) (λ setup.
             IfOk result (λ admitted.
             admitted ≡ admits setup self.now.me.shard self.now.pool entry.now)) }
+        ensures judge { judge.new ≡ judge.old }
     {
         for action in entry.actions.as_slice() {
             if !self.admits_action(alloc, action, judge)? {

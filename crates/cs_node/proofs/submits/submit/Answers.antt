@@ -9,8 +9,8 @@ use Rattle.cs_node.specs.Signing.{Leaves}
 use Rattle.cs_node.proofs.Submitting.{stays, one-makes, standing}
 use Rattle.cs_node.proofs.submits.submit.Goals as goal
 
-pub returns-in-Some : goal.returns-in-Some
-returns-in-Some g c = λ genesis log kept_is.
+pub returns-in-Some-clause-does : goal.returns-in-Some-clause-does
+returns-in-Some-clause-does g c = λ genesis log kept_is.
     let approves = g.J.Judge.is_approved c.args.judge.now in
     let setup = deployed_setup c.args.sbac.now.config genesis approves in
     let me = c.args.sbac.now.me in
@@ -21,15 +21,15 @@ returns-in-Some g c = λ genesis log kept_is.
     (standing setup me.shard bench c.args.sender c.args.session (Some c.in-Some.accepted) (sym c.is_client.ensures ∙ c.if-not-is_client.false) (sym (c.in_ok-is_fit_named.ensures genesis approves) ∙ c.if-not-branch.false)
     (sym (c.in_ok-accepted.ensures genesis approves) ∙ c.in-Some.is) ∙ ap says (sym c.in_ok-digest.ensures)) refl tells)) c.say.ensures
 
-pub returns-in-None : goal.returns-in-None
-returns-in-None g c = λ genesis log kept_is.
+pub returns-in-None-clause-does : goal.returns-in-None-clause-does
+returns-in-None-clause-does g c = λ genesis log kept_is.
     let approves = g.J.Judge.is_approved c.args.judge.now in
     let setup = deployed_setup c.args.sbac.now.config genesis approves in
     let me = c.args.sbac.now.me in
     let bench = bench_of log c.args.sbac.now in
     let P : List Sign → Type 0 = λ signs. OnOk c.enter.result (Leaves setup c.args.sbac.now signs bench c.enter.new.sbac c.args.draft.now c.enter.new.draft) in
     subst P (sym (standing setup me.shard bench c.args.sender c.args.session None (sym c.is_client.ensures ∙ c.if-not-is_client.false) (sym (c.in_ok-is_fit_named.ensures genesis approves) ∙ c.if-not-branch.false)
-    (sym (c.in_ok-accepted.ensures genesis approves) ∙ c.in-None.is))) (c.enter.ensures genesis log kept_is)
+    (sym (c.in_ok-accepted.ensures genesis approves) ∙ c.in-None.is))) (c.enter.ensures.does genesis log kept_is)
 
 pub enter-requires-clause-formed : goal.enter-requires-clause-formed
 enter-requires-clause-formed g c = λ genesis approves. sym (c.in_ok-is_fit_named.ensures genesis approves) ∙ c.if-not-branch.false

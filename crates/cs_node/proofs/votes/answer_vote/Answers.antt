@@ -12,8 +12,8 @@ use Rattle.std.proofs.Common.{refl, false}
 use Rattle.cs_node.proofs.Voting.{asked-known, asked-new}
 use Rattle.cs_node.proofs.votes.answer_vote.Goals as goal
 
-pub returns-in-Some : goal.returns-in-Some
-returns-in-Some g c = λ genesis log kept_is.
+pub returns-in-Some-clause-does : goal.returns-in-Some-clause-does
+returns-in-Some-clause-does g c = λ genesis log kept_is.
     let setup = deployed_setup c.args.sbac.now.config genesis (g.J.Judge.is_approved c.args.judge.now) in
     let me = c.args.sbac.now.me in
     let bench = bench_of log c.args.sbac.now in
@@ -23,8 +23,8 @@ returns-in-Some g c = λ genesis log kept_is.
     (one-makes setup me bench (asking_signs setup bench ballot.sender ballot.vote c.args.asks c.args.session known) (Sent ballot.sender (message.Voted c.in-Some.vote false c.args.session)) c.args.draft.now c.say.new.self
     (asked-known setup me.shard bench ballot.sender ballot.vote c.args.asks c.args.session known c.in-Some.vote c.if-not-asks.false (sym (c.in_ok-vote.ensures genesis (g.J.Judge.is_approved c.args.judge.now)) ∙ c.in-Some.is)) refl tells)) c.say.ensures
 
-pub returns-in-None : goal.returns-in-None
-returns-in-None g c = λ genesis log kept_is.
+pub returns-in-None-clause-does : goal.returns-in-None-clause-does
+returns-in-None-clause-does g c = λ genesis log kept_is.
     let setup = deployed_setup c.args.sbac.now.config genesis (g.J.Judge.is_approved c.args.judge.now) in
     let me = c.args.sbac.now.me in
     let bench = bench_of log c.args.sbac.now in
@@ -32,4 +32,4 @@ returns-in-None g c = λ genesis log kept_is.
     let known = noted setup me.shard bench.table c.args.session in
     let P : List Sign → Type 0 = λ signs. OnOk c.enter_voted.result (Leaves setup c.args.sbac.now signs bench c.enter_voted.new.sbac c.args.draft.now c.enter_voted.new.draft) in
     subst P (sym (asked-new setup me.shard bench ballot.sender ballot.vote c.args.asks c.args.session known c.if-not-asks.false (sym (c.in_ok-vote.ensures genesis (g.J.Judge.is_approved c.args.judge.now)) ∙ c.in-None.is)))
-    (c.enter_voted.ensures genesis log kept_is)
+    (c.enter_voted.ensures.does genesis log kept_is)

@@ -10,8 +10,8 @@ use Rattle.cs_node.specs.Signing.{Leaves}
 use Rattle.cs_node.proofs.Voting.{counted-first, counted-again, is-counted, absent, on-first, first-makes, on-second, on-found, second-makes}
 use Rattle.cs_node.proofs.votes.hear_vote.Goals as goal
 
-pub returns-in-Repeat : goal.returns-in-Repeat
-returns-in-Repeat g c = λ genesis log kept_is.
+pub returns-in-Repeat-clause-does : goal.returns-in-Repeat-clause-does
+returns-in-Repeat-clause-does g c = λ genesis log kept_is.
     let approves = g.J.Judge.is_approved c.args.judge.now in
     let setup = deployed_setup c.args.sbac.now.config genesis approves in
     let held = c.args.sbac.now in
@@ -24,8 +24,8 @@ returns-in-Repeat g c = λ genesis log kept_is.
     (on-second setup me.shard (bench_of log held) ballot.sender ballot.vote c.args.asks x (sym c.is_client.ensures ∙ c.if-is_client.false) (sym (c.in_ok-is_fit_named.ensures genesis approves) ∙ c.if-not-branch.false) (sym (c.concerns.ensures genesis approves) ∙ c.if-not-concerns.false) there)
     counted.left there) c.drop_it-in-Repeat.ensures
 
-pub returns-in-NotPooled : goal.returns-in-NotPooled
-returns-in-NotPooled g c = λ genesis log kept_is.
+pub returns-in-NotPooled-clause-does : goal.returns-in-NotPooled-clause-does
+returns-in-NotPooled-clause-does g c = λ genesis log kept_is.
     let approves = g.J.Judge.is_approved c.args.judge.now in
     let setup = deployed_setup c.args.sbac.now.config genesis approves in
     let held = c.args.sbac.now in
@@ -38,13 +38,13 @@ returns-in-NotPooled g c = λ genesis log kept_is.
     let P : Held → Type 0 = λ h. OnOk c.answer_vote.result (Leaves (deployed_setup h.config genesis approves) h
     (asking_signs (deployed_setup h.config genesis approves) (bench_of log h) ballot.sender ballot.vote c.args.asks x (noted (deployed_setup h.config genesis approves) h.me.shard (bench_of log h).table x)) (bench_of log h) c.answer_vote.new.sbac c.args.draft.now c.answer_vote.new.draft) in
     let Q : List Sign → Type 0 = λ signs. OnOk c.answer_vote.result (Leaves setup held signs (bench_of log held) c.answer_vote.new.sbac c.args.draft.now c.answer_vote.new.draft) in
-    subst Q (sym is) (subst P alone.same (c.answer_vote.ensures genesis log (ap (λ (h : Held). h.archived.kept) alone.same ∙ kept_is)))
+    subst Q (sym is) (subst P alone.same (c.answer_vote.ensures.does genesis log (ap (λ (h : Held). h.archived.kept) alone.same ∙ kept_is)))
 
 pub concerns-requires : goal.concerns-requires
 concerns-requires g c = λ genesis approves. sym (c.in_ok-is_fit_named.ensures genesis approves) ∙ c.if-not-branch.false
 
-pub returns-in-Counted : goal.returns-in-Counted
-returns-in-Counted g c = λ genesis log kept_is.
+pub returns-in-Counted-clause-does : goal.returns-in-Counted-clause-does
+returns-in-Counted-clause-does g c = λ genesis log kept_is.
     let approves = g.J.Judge.is_approved c.args.judge.now in
     let setup = deployed_setup c.args.sbac.now.config genesis approves in
     let held = c.args.sbac.now in

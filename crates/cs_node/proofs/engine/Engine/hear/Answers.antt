@@ -1,12 +1,17 @@
 use Rattle.std.proofs.Common.{refl}
 use Rattle.cs_wire_message.specs.declared.message.Message.TheVariants as message
+use Rattle.cs_node_rules.specs.Trail.{message_marks}
 use Rattle.cs_node.proofs.Heard.{as-said, signs-said, other-said}
+use Rattle.cs_node.proofs.Judged.{led-judged}
 use Rattle.cs_node.proofs.engine.Engine.hear.Goals as goal
 
 pub returns-in-Submit : goal.returns-in-Submit
 returns-in-Submit g c =
-    signs-said g.O.Order.stands g.J.Judge.is_approved g.O.Order.rules g.O.Carried.carrier c.args.self.now c.submit.new.sbac c.args.draft.now c.submit.new.draft c.submit.result c.args.sender c.args.message (message.Submit c.in-Submit.session) c.in-Submit.is (λ site v. refl)
-    c.submit.ensures
+    let engine = c.args.self.now in
+    led-judged g.O.Order.stands g.J.Judge.is_approved g.O.Order.rules g.O.Carried.carrier engine (record { order = engine.order; judge = engine.judge; sbac = c.submit.new.sbac }) c.submit.new.judge c.args.draft.now c.submit.new.draft c.submit.result
+    (λ site v. message_marks site v c.args.sender c.args.message) c.submit.ensures.judge
+    (signs-said g.O.Order.stands g.J.Judge.is_approved g.O.Order.rules g.O.Carried.carrier engine c.submit.new.sbac c.args.draft.now c.submit.new.draft c.submit.result c.args.sender c.args.message (message.Submit c.in-Submit.session) c.in-Submit.is (λ site v. refl)
+    c.submit.ensures.does)
 
 pub returns-in-Ask : goal.returns-in-Ask
 returns-in-Ask g c =
@@ -20,8 +25,11 @@ returns-in-AskProof g c =
 
 pub returns-in-Voted : goal.returns-in-Voted
 returns-in-Voted g c =
-    signs-said g.O.Order.stands g.J.Judge.is_approved g.O.Order.rules g.O.Carried.carrier c.args.self.now c.hear_vote.new.sbac c.args.draft.now c.hear_vote.new.draft c.hear_vote.result c.args.sender c.args.message (message.Voted c.in-Voted.vote c.in-Voted.asks c.in-Voted.session) c.in-Voted.is (λ site v. refl)
-    c.hear_vote.ensures
+    let engine = c.args.self.now in
+    led-judged g.O.Order.stands g.J.Judge.is_approved g.O.Order.rules g.O.Carried.carrier engine (record { order = engine.order; judge = engine.judge; sbac = c.hear_vote.new.sbac }) c.hear_vote.new.judge c.args.draft.now c.hear_vote.new.draft c.hear_vote.result
+    (λ site v. message_marks site v c.args.sender c.args.message) c.hear_vote.ensures.judge
+    (signs-said g.O.Order.stands g.J.Judge.is_approved g.O.Order.rules g.O.Carried.carrier engine c.hear_vote.new.sbac c.args.draft.now c.hear_vote.new.draft c.hear_vote.result c.args.sender c.args.message (message.Voted c.in-Voted.vote c.in-Voted.asks c.in-Voted.session) c.in-Voted.is (λ site v. refl)
+    c.hear_vote.ensures.does)
 
 pub returns-in-Want : goal.returns-in-Want
 returns-in-Want g c =

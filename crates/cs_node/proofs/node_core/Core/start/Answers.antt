@@ -11,6 +11,7 @@ use Rattle.cs_sbac.specs.Held.{Held}
 use Rattle.cs_node.specs.Cores.{KeepsView}
 use Rattle.cs_node.specs.Speaking.{Speaks}
 use Rattle.cs_sbac.proofs.Fit.{all-fit}
+use Rattle.cs_node.proofs.Judged.{keeps-judged}
 use Rattle.cs_node.proofs.Starting.{begun_with, started}
 use Rattle.cs_node.proofs.node_core.Core.start.Goals as goal
 
@@ -34,11 +35,12 @@ returns-clause-stands g c = λ objects named net speaks.
     let P : Held → Type 0 = λ sbac. KeepsView g.O.Order.stands approves setup (record { order = c.args.order; judge = c.args.judge; sbac = sbac }) (start_view site me) in
     let S : Held → Type 0 = λ sbac. Speaks sbac.config net c.args.keys in
     record {
-      keeps = subst P (sym sbac-is)
+      keeps = keeps-judged g.O.Order.stands approves setup (record { order = c.args.order; judge = c.args.judge; sbac = c.in_ok-sbac.sbac }) c.new-judge.result (start_view site me) c.new-judge.ensures
+          (subst P (sym sbac-is)
           (started g.O.Order.stands approves rules carried net c.args.config me objects c.args.genesis.now c.args.order c.args.judge c.in-Ok.table c.in_ok-sbac.sbac.archived.hashed (g.O.Order.f c.args.order) (g.O.Order.me c.args.order)
           (g.met.O.Order.begins c.args.order c.requires.start) c.requires.f c.requires.me c.requires.node (ap version_of c.requires.version) named
           (c.in-Ok.ensures.table ∙ ap (λ (name : NodeId). begun (genesis_rules c.args.config c.args.genesis.now) name.shard) c.me-me.ensures)
-          c.root_is_shown.ensures.keys);
+          c.root_is_shown.ensures.keys));
       me_is = refl;
       speaks = subst S (sym sbac-is) speaks;
       quiet = start-quiet site me g.met.O.Order.holds g.O.Order.left g.met.O.Order.comes_to_rest;
