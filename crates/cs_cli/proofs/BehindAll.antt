@@ -1,8 +1,7 @@
 -- Words that stand behind all others of a command.
-use Rattle.std.proofs.Common.{◌≡◌, ℕ, List, take, drop, map, cond, Option, Some, None, sym, ap, ◌∙◌, length}
-use Rattle.std.specs.Prelude.{String, string_bytes, not, nat_lt, option_and_then}
+use Rattle.std.proofs.Common.{◌≡◌, ℕ, List, take, drop, cond, Option, Some, None, sym, ap, ◌∙◌, length}
+use Rattle.std.specs.Prelude.{string_bytes, not, nat_lt, option_and_then}
 use Rattle.std.specs.List.{position, prefix_len}
-use Rattle.std.specs.declared.alloc.Global.{Global}
 use Rattle.std.proofs.lemmas.List.{length-map, take-map, drop-map}
 use Rattle.cs_cli.specs.Words.{texts_of}
 use Rattle.cs_cli.specs.Wished.{is_wish, is_wish_word, with_wishes, wished_at, wished}

@@ -5,7 +5,7 @@ use Rattle.cs_tx_types.specs.declared.transaction.Tx.{Tx}
 use Rattle.cs_tx_types.specs.Transaction.{TxFits}
 use Rattle.cs_proc.specs.declared.call.Call.{Call}
 use Rattle.cs_proc.specs.declared.error.ProcError.{ProcError}
-use Rattle.cs_proc.specs.Calling.{CallRan, ran}
+use Rattle.cs_proc.specs.Calling.{ran}
 use Rattle.cs_proc.specs.Answering.{AnswersCall}
 use Rattle.cs_client.specs.Calls.{given_tx, unless_given, ran_with}
 use Rattle.cs_client.specs.Seen.{IsTaken, TakesTransaction}

@@ -24,7 +24,7 @@ use Rattle.cs_client.specs.Objects.{active, free_in, word_told, object_told, tol
 use Rattle.cs_dummies.specs.Named.{DummyWord, named_with}
 use Rattle.cs_client.specs.Nodes.{numbers_below}
 use Rattle.cs_client.specs.Dummies.{dummy_told, dummy_word_in, named_after, named_by, serials_in}
-use Rattle.cs_client.specs.Kept.{WordsTold, told_by_inputs, asked_on, asked_with, with_word, word_of_name, told_with_state, heard_of, serials_kept, named_kept, with_dummy_word}
+use Rattle.cs_client.specs.Kept.{WordsTold, told_by_inputs, asked_on, asked_with, with_word, word_of_name, told_with_state, heard_of, serials_kept, with_dummy_word}
 use Rattle.cs_client.proofs.Members.{node_at, same-members, same-shards, same-each, set-members, set-shards, each-changed, get-shards, get-members}
 
 -- ---- names of nodes

@@ -1,5 +1,5 @@
 -- What a client waits for by what it keeps is what it waits for by its inputs.
-use Rattle.std.proofs.Common.{◌≡◌, ℕ, ◌<◌, Bool, true, false, List, [], ◌∷◌, ◌++◌, map, Option, Some, None, refl, sym, ap, ◌∙◌, if◌then◌else◌}
+use Rattle.std.proofs.Common.{◌≡◌, ℕ, ◌<◌, Bool, List, [], ◌∷◌, ◌++◌, map, Option, Some, None, refl, ap, ◌∙◌, if◌then◌else◌}
 use Rattle.std.specs.Prelude.{is_none, is_some, filter}
 use Rattle.std.specs.List.{AllByRecursion}
 use Rattle.cs_tx_value.specs.declared.object.Object.{Object}
@@ -10,11 +10,11 @@ use Rattle.cs_client.specs.declared.waiting.Waiting.TheVariants.{Objects, Dummie
 use Rattle.cs_client.specs.Inputs.{ClientInput}
 use Rattle.cs_client.specs.Objects.{believed}
 use Rattle.cs_client.specs.Sessions.{bare_shards}
-use Rattle.cs_client.specs.Phases.{Phase, phase}
+use Rattle.cs_client.specs.Phases.{phase}
 use Rattle.cs_client.specs.Kept.{WordsTold, asked_on, told_by_inputs}
 use Rattle.cs_client.specs.Seen.{phase_seen, PhaseFits}
 use Rattle.cs_client.specs.Hearing.{Keeps}
-use Rattle.cs_client.specs.Waits.{unbelieved, lacks_dummy, waiting_in, waiting, unsettled, names_unsettled, lacks_kept, waiting_kept}
+use Rattle.cs_client.specs.Waits.{unbelieved, lacks_dummy, waiting_in, waiting, unsettled, lacks_kept, waiting_kept}
 use Rattle.cs_client.proofs.Moving.{dummy-so, all-bare}
 
 -- the flags are those of the inputs

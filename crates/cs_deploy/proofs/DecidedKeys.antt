@@ -37,6 +37,7 @@ untaken-decided {A} Come Done Failed (Some told) written written' status is stor
     by (untaken.Refused name (cause.Limit f)) so failed tells other = (Err (name, cause.Limit f), so, (tells.verdict writes other).0)
     by (untaken.Refused name cause.Contract) so failed tells other = (Err (name, cause.Contract), so, (tells.verdict writes other).0)
     by (untaken.Refused name cause.Key) so failed tells other = (Err (name, cause.Key), so, (tells.verdict writes other).0)
+    by (untaken.Refused name cause.Journal) so failed tells other = (Err (name, cause.Journal), so, (tells.verdict writes other).0)
     by untaken.Memory so failed tells other = absurd (other tells.0)
 
 pub untaken-other : {A : Type 0} (Come : Files → Taken A → Type 0) (Failed : Type 0) (files : Option Files) (written written' : Option (List ℕ)) (status n : ℕ)

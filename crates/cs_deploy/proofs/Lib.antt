@@ -6,10 +6,10 @@ pub mod Tried
 pub mod Resumed
 mod Unknown
 mod Names
-mod Steps
-mod Texts
-mod Takes
-mod Hosted
+pub mod Steps
+pub mod Texts
+pub mod Takes
+pub mod Hosted
 pub mod Answered
 pub mod DecidedKeys
 pub mod Going

@@ -38,6 +38,7 @@ refusal {A} Come files name c (untaken.Refused text why) sound is told =
     by (cause.Limit f) is sound = is
     by cause.Contract is sound = is
     by cause.Key is sound = is
+    by cause.Journal is sound = is
 
 -- the store failed at a file
 pub refusal-fault : {A : Type 0} (Come : Files → Taken A → Type 0) (files : Files) (name : List ℕ) (why : Untaken) → MayFailAt Come files name → Refuses name cause.Fault why → IsFileRefusal Come files why
@@ -58,6 +59,7 @@ refusal-so Come So files each fails (untaken.Refused name (cause.Field f)) is = 
 refusal-so Come So files each fails (untaken.Refused name (cause.Limit f)) is = each (name, cause.Limit f) is
 refusal-so Come So files each fails (untaken.Refused name cause.Contract) is = each (name, cause.Contract) is
 refusal-so Come So files each fails (untaken.Refused name cause.Key) is = each (name, cause.Key) is
+refusal-so Come So files each fails (untaken.Refused name cause.Journal) is = each (name, cause.Journal) is
 
 -- ---- files of which one isn't there
 

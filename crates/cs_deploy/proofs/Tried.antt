@@ -11,12 +11,9 @@ use Rattle.cs_config.specs.declared.call.CallFile.{CallFile}
 use Rattle.cs_config.specs.declared.hosts.Hosts.{Hosts}
 use Rattle.cs_proc.specs.declared.error.ProcError.{ProcError}
 use Rattle.cs_judge.specs.declared.fault.CallFault.{CallFault}
-use Rattle.cs_client.specs.declared.known.Known.{Known}
-use Rattle.cs_client.specs.declared.known.Known.TheVariants as known
 use Rattle.cs_client.specs.Inputs.{ClientInput}
 use Rattle.cs_tries.specs.Tries.{Try}
 use Rattle.cs_serve.specs.declared.receiving.TheConstants.{MOST_MISSED}
-use Rattle.cs_serve.specs.declared.client_ending.Ending.{Ending}
 use Rattle.cs_serve.specs.declared.client_ending.Ending.TheVariants.{Knows, Refused, LinkFault, Memory}
 use Rattle.cs_tries.specs.declared.ending.TryEnding.{TryEnding}
 use Rattle.cs_tries.specs.declared.ending.TryEnding.TheVariants.{Ended, Told, Waits, WriteFault}
@@ -27,7 +24,7 @@ use Rattle.cs_deploy.specs.declared.wishes.Wishes.{Wishes}
 use Rattle.cs_deploy.specs.Hosts.{ClientFilesCome}
 use Rattle.cs_deploy.specs.Untaken.{IsDecided}
 use Rattle.cs_deploy.specs.Binding.{link_answer}
-use Rattle.cs_deploy.specs.Client.{known_status, known_answer, refused_answer, TellsEnding, IsToldOf}
+use Rattle.cs_deploy.specs.Client.{known_answer, refused_answer, IsToldOf}
 use Rattle.cs_deploy.specs.Tries.{waits_answer, TellsTryEnding, judged, fault_answer, TriesGo, TriesGoBy, TriesRun}
 use Rattle.cs_deploy.proofs.Answered.{answers-other}
 use Rattle.cs_deploy.proofs.Decided.{told-of, known-other, runs-decided, runs-other}

@@ -1,5 +1,5 @@
 -- Before its first input a client knows nothing, also of a session that was made before.
-use Rattle.std.proofs.Common.{◌≡◌, ℕ, zero, suc, ◌+◌, ◌*◌, ◌<◌, Bool, true, false, List, [], ◌∷◌, ◌++◌, map, Option, Some, None, refl, sym, ap, subst, ◌∙◌, inl, inr, ◌⊎◌, arith, if◌then◌else◌}
+use Rattle.std.proofs.Common.{◌≡◌, ℕ, zero, suc, ◌+◌, ◌*◌, ◌<◌, Bool, true, false, List, [], ◌∷◌, ◌++◌, Option, Some, None, refl, sym, ap, subst, ◌∙◌, inl, inr, ◌⊎◌, arith, if◌then◌else◌}
 use Rattle.std.specs.Prelude.{IfSome, nat_lt, ◌&&◌, ◌||◌, ◌==◌}
 use Rattle.std.specs.List.{list_all, list_any}
 use Rattle.std.proofs.Math.Nat.{eq-or-lt_of_le}
@@ -11,7 +11,7 @@ use Rattle.cs_base.specs.Options.{or_else}
 use Rattle.cs_order.specs.Counts.{count_below}
 use Rattle.cs_tx_types.specs.declared.session.Session.{Session}
 use Rattle.cs_tx.specs.Digest.{digest_of_session}
-use Rattle.cs_tx.specs.Uses.{inputs_of, references_of, outputs_of, names, is_in, is_among, used_names, concerns, concerned_below, concerned_shards}
+use Rattle.cs_tx.specs.Uses.{inputs_of, references_of, outputs_of, names, is_among, used_names, concerns, concerned_below, concerned_shards}
 use Rattle.cs_tx.specs.declared.malformed.Malformed.{Malformed}
 use Rattle.cs_tx.specs.declared.malformed.Malformed.TheVariants as malformed
 use Rattle.cs_tx.specs.WellFormed.{no_input, first_twice, used_twice, has_own_objects, foreign, first_failing, has_earlier_deps, late_dep, are_right, wrong_dummies, IsWellFormed}

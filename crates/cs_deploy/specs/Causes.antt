@@ -13,6 +13,7 @@ cause_text (cause.Field f) = codes "field " ++ field_name f
 cause_text (cause.Limit f) = codes "limit " ++ field_name f
 cause_text cause.Contract = codes "contract"
 cause_text cause.Key = codes "key"
+cause_text cause.Journal = codes "journal"
 
 abbrev pub refusal_line : List ℕ → Cause → List ℕ
 refusal_line name c = codes "store " ++ (name ++ (codes " " ++ (cause_text c ++ codes "\n")))

@@ -28,7 +28,7 @@ fn place<L: Link>(link: &mut L, hosts: &Option<Hosts>) -> Result<(), Memory>
 
 /// Tells the link where all are, and binds it; or tells that it can't be bound, and answers the
 /// status that a program ends with.
-pub(crate) fn bind_or_tell<L: Link, K: Sink>(
+pub fn bind_or_tell<L: Link, K: Sink>(
     link: &mut L,
     hosts: &Option<Hosts>,
     me: NodeId,

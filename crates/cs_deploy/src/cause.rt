@@ -27,6 +27,8 @@ pub enum Cause {
     Contract,
     /// Two of its genesis objects have one key.
     Key,
+    /// It is no journal of the node.
+    Journal,
 }
 
 /// That the file of a name isn't taken, and why, unless memory ran out.
@@ -57,6 +59,7 @@ pub fn refusal_line(alloc: Global, name: &str, cause: Cause) -> Result<String, M
         Cause::Limit(field) => format!(in alloc; "store {name} limit {}\n", field.name())?,
         Cause::Contract => format!(in alloc; "store {name} contract\n")?,
         Cause::Key => format!(in alloc; "store {name} key\n")?,
+        Cause::Journal => format!(in alloc; "store {name} journal\n")?,
     };
     Ok(line)
 }

@@ -35,7 +35,7 @@ fn take_file<E: Store>(
 }
 
 /// The same, where a file is named.
-pub(crate) fn take_hosts<E: Store>(
+pub fn take_hosts<E: Store>(
     alloc: Global,
     store: &mut E,
     config: &Config,

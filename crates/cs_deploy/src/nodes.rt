@@ -81,8 +81,8 @@ fn run_setup<L: Link, K: Sink>(
     }
 }
 
-// Tells how the serving of a node has ended.
-fn tell_end<K: Sink>(end: End, out: &mut K) -> u8
+/// Tells how the serving of a node has ended.
+pub fn tell_end<K: Sink>(end: End, out: &mut K) -> u8
     ensures tells { TellsEnd end (K.written out.old) (K.written out.new) result }
     ensures faults { K.faults out.old ≤ K.faults out.new }
     ensures cause { result ≡ 6 → (end ≡ End.WriteFault) ⊎ Faulty K.faults out.old out.new }

@@ -19,8 +19,8 @@ use cs_sbac::keyed;
 use cs_tx::Judge;
 use std::alloc::Global;
 
-// The node of a setup, before its first input.
-pub(crate) fn start_node(alloc: Global, setup: Setup) -> Result<Core<SlotOrder, RuledBook>, Memory>
+/// The node of a setup, before its first input.
+pub fn start_node(alloc: Global, setup: Setup) -> Result<Core<SlotOrder, RuledBook>, Memory>
     requires { IsSoundSetup Node setup }
     ensures { (net : Net) → Speaks setup.site.config net setup.keys →
         let site = site_of_setup setup net in

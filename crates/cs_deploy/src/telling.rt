@@ -24,8 +24,8 @@ pub fn tell<K: Sink>(out: &mut K, text: &[u8], status: u8) -> u8
     closing(print(out, text), status)
 }
 
-// Tells that the file of this name isn't taken.
-fn refuse_file<K: Sink>(alloc: Global, name: &str, cause: Cause, out: &mut K) -> u8
+/// Tells that the file of this name isn't taken.
+pub fn refuse_file<K: Sink>(alloc: Global, name: &str, cause: Cause, out: &mut K) -> u8
     ensures answers { Answers (untaken_answer name.now cause)
         (K.written out.old) (K.written out.new) result }
     ensures cause { HasCause (K.faults out.old) (K.faults out.new) (result ≡ 6) }

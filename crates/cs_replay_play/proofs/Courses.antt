@@ -14,7 +14,7 @@ use Rattle.cs_order.specs.Deeds.{Member, Machine}
 use Rattle.cs_sched.specs.declared.schedule.Event.{Event}
 use Rattle.cs_sched.specs.declared.schedule.Event.TheVariants.{Say, Inject, Deliver, Tick, Drain}
 use Rattle.cs_node_rules.specs.Site as Given
-use Rattle.cs_node_rules.specs.Site.{Input, Datagram, Carriers, Site, signs_of}
+use Rattle.cs_node_rules.specs.Site.{Input, Datagram, Carriers, Site}
 use Rattle.cs_node_rules.specs.World.{happens, is_genuine}
 use Rattle.cs_node_rules.specs.Lines.{Parcel, parcels_of}
 use Rattle.cs_replay_rules.specs.Lines.{event_lines}

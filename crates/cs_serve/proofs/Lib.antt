@@ -1,7 +1,7 @@
 pub mod Giving
-mod Trails
+pub mod Trails
 mod Noted
 mod Answered
-mod Turns
+pub mod Turns
 pub mod Runs
 pub mod Told

@@ -25,7 +25,7 @@ use Rattle.cs_serve.proofs.Giving.{Gives-nil, Gives-more, GivesFront-all, GivesF
 use Rattle.cs_serve.proofs.Trails.{me-same, offers-append, bytes-append, after, trail-append, after-append, trail-one}
 
 -- a fact of the node that is left
-left-is : {C : Type 0} (P Q : C → Type 0) → ((core : C) → P core → Q core) → (left : Option C) → IfSome left P → IfSome left Q
+pub left-is : {C : Type 0} (P Q : C → Type 0) → ((core : C) → P core → Q core) → (left : Option C) → IfSome left P → IfSome left Q
 left-is P Q each None is = tt
 left-is P Q each (Some core) is = each core is
 
@@ -36,7 +36,7 @@ missed-more a b first (input ∷ later) is = refl
 module _ {C M : Type 0} (stands : C → View M → Type 0) (site : Site M) where
   -- ---- what is given
 
-  all-more : (v : View M) (first later : List Input) (a b c : Beside LinkTold) → NodeGivesAll site v (trail site v first) a b → NodeGivesAll site (after site v first) (trail site (after site v first) later) b c → NodeGivesAll site v (trail site v (later ++ first)) a c
+  pub all-more : (v : View M) (first later : List Input) (a b c : Beside LinkTold) → NodeGivesAll site v (trail site v first) a b → NodeGivesAll site (after site v first) (trail site (after site v first) later) b c → NodeGivesAll site v (trail site v (later ++ first)) a c
   all-more v first later a b c p q =
       let w = after site v first in
       let P : List (Mark M) → Type 0 = λ marks. NodeGivesAll site v marks a c in

@@ -15,5 +15,5 @@ pub use client_ending::Ending;
 pub use ending::End;
 pub use offering::offer;
 pub use receiving::{MOST_MISSED, receive};
-pub use serving::serve;
+pub use serving::{answer, serve};
 pub use telling::tell;

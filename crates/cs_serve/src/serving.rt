@@ -108,8 +108,8 @@ fn take_turn<O: Carried, J: Judge + Drop, L: Link, K: Sink>(
     }
 }
 
-// Gives the node an input, and gives out what it makes of it.
-fn answer<O: Carried, J: Judge + Drop, L: Link, K: Sink>(
+/// Gives the node an input, offers what it sends, and prints the lines of what it executes.
+pub fn answer<O: Carried, J: Judge + Drop, L: Link, K: Sink>(
     alloc: Global,
     core: Core<O, J>,
     input: Input<'_>,

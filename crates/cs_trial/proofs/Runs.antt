@@ -42,6 +42,7 @@ module _ (written written' : Option (List ℕ)) (status : ℕ) (writes : status 
   by-why file cases fs (untaken.Refused name (cause.Limit f)) Failed is failed never told = by-cause (bytes_taken file fs) cases name (cause.Limit f) is told
   by-why file cases fs (untaken.Refused name cause.Contract) Failed is failed never told = by-cause (bytes_taken file fs) cases name cause.Contract is told
   by-why file cases fs (untaken.Refused name cause.Key) Failed is failed never told = by-cause (bytes_taken file fs) cases name cause.Key is told
+  by-why file cases fs (untaken.Refused name cause.Journal) Failed is failed never told = by-cause (bytes_taken file fs) cases name cause.Journal is told
   by-why file cases fs untaken.Memory Failed is failed never told = absurd (room told.0)
 
   -- ---- it is

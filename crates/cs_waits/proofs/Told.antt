@@ -12,7 +12,7 @@ use Rattle.cs_wire.specs.declared.keys.Keys.{Keys}
 use Rattle.cs_wire_message.specs.declared.message.Message.{Message}
 use Rattle.cs_client.specs.declared.errand.Errand.{Errand}
 use Rattle.cs_client.specs.Nodes.{nodes_in}
-use Rattle.cs_client.specs.Inputs.{ClientInput, Said, heard, from_node, said_from, latest}
+use Rattle.cs_client.specs.Inputs.{ClientInput, Said, heard, from_node, latest}
 use Rattle.cs_client.specs.Objects.{shard_of_name}
 use Rattle.cs_client.specs.Sayings.{says_at, outs_of_sayings}
 use Rattle.cs_client.specs.declared.waiting.Waiting.{Waiting}
@@ -24,7 +24,7 @@ use Rattle.cs_waits.specs.declared.words.Word.{Word}
 use Rattle.cs_waits.specs.declared.words.Word.TheVariants.{Silent}
 use Rattle.cs_waits.specs.Words.{word_in, word_by, last_word, words_on}
 use Rattle.cs_waits.specs.Notes.{Noted, objects_of, watched_on, asked_by, heard_by, with_heard, notes_of, unwatched, nothing_noted, put_from, with_told, with_word, after_said, after_asking}
-use Rattle.cs_waits.specs.Lines.{open_text, open_lines}
+use Rattle.cs_waits.specs.Lines.{open_text}
 use Rattle.cs_waits.specs.Standing.{notes_if, lines_if}
 
 -- ---- before the first input

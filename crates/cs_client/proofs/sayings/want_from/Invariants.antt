@@ -1,6 +1,6 @@
 use Rattle.std.proofs.Common.{◌≡◌, ◌++◌}
 use Rattle.std.specs.List.{flat_map}
-use Rattle.cs_client.specs.Nodes.{nodes_in, numbers_below}
+use Rattle.cs_client.specs.Nodes.{numbers_below}
 use Rattle.cs_client.specs.Sayings.{outs_of_sayings, wants_one}
 use Rattle.cs_client.proofs.sayings.want_from.Given as goal
 

@@ -1,5 +1,5 @@
 use Rattle.std.specs.Prelude.{Option}
-use Rattle.std.proofs.Common.{inl, inr, ℕ, List, Err, ap, refl, subst, ◌∙◌, arith}
+use Rattle.std.proofs.Common.{inl, inr, ℕ, List, Err, ap, refl, subst, ◌∙◌}
 use Rattle.cs_base.specs.Outside.{Rose}
 use Rattle.cs_io.specs.Outside.{beside}
 use Rattle.cs_io.specs.laws.Told.{stays-same}

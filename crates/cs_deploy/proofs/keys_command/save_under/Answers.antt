@@ -1,5 +1,5 @@
 use Rattle.std.specs.Prelude.{None}
-use Rattle.std.proofs.Common.{Some, arith}
+use Rattle.std.proofs.Common.{Some}
 use Rattle.cs_base.specs.Outside.{Rose}
 use Rattle.cs_io.specs.Outside.{beside}
 use Rattle.cs_io.specs.laws.Told.{stays-same}

@@ -1,6 +1,5 @@
-use Rattle.std.proofs.Common.{◌≡◌, sym, arith}
+use Rattle.std.proofs.Common.{arith}
 use Rattle.std.proofs.lemmas.List.{take_min, drop_min}
-use Rattle.cs_deploy.specs.Master.{is_end, master_in, master_of}
 use Rattle.cs_deploy.specs.declared.limits.TheConstants.{MASTER_DIGITS}
 use Rattle.cs_deploy.proofs.master.master_of.Goals as goal
 

@@ -1,10 +1,12 @@
-use Rattle.std.proofs.Common.{ℕ, List, [], Err, sym, ap, subst, arith}
+use Rattle.std.proofs.Common.{◌≡◌, ℕ, List, [], Result, Err, refl, sym, ap, subst, ◌∙◌, arith}
+use Rattle.std.specs.Prelude.{IsErrOf}
 use Rattle.std.specs.Io.KnownBytes.{Appends}
 use Rattle.std.proofs.KnownBytes.{Appends-nil}
 use Rattle.std.proofs.lemmas.Result.{err_from_is_err_and}
 use Rattle.cs_sched.specs.declared.schedule.Event.{Event}
 use Rattle.cs_replay_rules.specs.Play.{unplayed, play_all}
 use Rattle.cs_replay_play.specs.Standing.{site_in, AllToOthers, StandsPrinted}
+use Rattle.cs_replay.specs.declared.outcome.ReplayError.{ReplayError}
 use Rattle.cs_replay.specs.declared.outcome.ReplayError.TheVariants.{WriteFault, Memory}
 use Rattle.cs_replay.specs.Closing.{IsLast, Closes}
 use Rattle.cs_replay.proofs.Whole.{closes-last, closes-cut, closes-early}
@@ -84,8 +86,12 @@ returns-in-Err-Failed-clause-cause g c =
       cause = λ failed. omega (arith, c.play_all-played.ensures.cause.later, risen);
     }
 
+-- want of memory is no fault of the sink
+not-sink : {A : Type 0} (result : Result A ReplayError) → result ≡ Err Memory → IsErrOf result WriteFault → ⊥
+not-sink result is failed = let same = sym is ∙ failed in cc
+
 pub returns-clause-cause : goal.returns-clause-cause
 returns-clause-cause g c = record {
   later = omega (arith, c.play_all-played.ensures.cause.later, c.print.ensures.cause.later);
-  cause = λ failed. absurd (cc);
+  cause = λ failed. absurd (not-sink (Err Memory) refl failed);
 }

@@ -4,11 +4,13 @@ use Rattle.cs_io.specs.Told.{Changes}
 use Rattle.cs_io.specs.declared.link.MemInput.{MemInput}
 use Rattle.cs_io.specs.declared.link.MemInput.TheVariants as came
 use Rattle.cs_io.specs.Outside.{beside}
+use Rattle.cs_io.specs.laws.Told.{stays-both}
 use Rattle.cs_node_rules.specs.Deployment.{site_of}
 use Rattle.cs_node.specs.Cores.{CoreStandsFor}
 use Rattle.cs_serve.specs.declared.ending.End.TheVariants.{Done}
 use Rattle.cs_serve.specs.Giving.{given_of}
 use Rattle.cs_serve.proofs.Giving.{Gives-kept}
+use Rattle.cs_serve.proofs.Runs.{le_more}
 use Rattle.cs_serve.proofs.Turns.{passes-answer, turn-ended, turn-failed}
 use Rattle.cs_serve.proofs.serving.take_turn.Goals as goal
 
@@ -67,3 +69,43 @@ returns-in-Failed-clause-takes g c = λ setup net v is.
     let site = site_of setup net g.O.Order.rules g.O.Carried.carrier in
     turn-failed (CoreStandsFor g.O.Order.stands g.J.Judge.is_approved site) site v (beside (g.L.Link.told c.args.link.now) (g.K.Sink.written c.args.out.now)) (beside (g.L.Link.told c.receive.new.link) (g.K.Sink.written c.args.out.now)) c.args.core is c.in-Failed.ensures.input c.in-Failed.ensures.missed
     (Gives-kept (beside (g.L.Link.told c.args.link.now) (g.K.Sink.written c.args.out.now)) (beside (g.L.Link.told c.receive.new.link) (g.K.Sink.written c.args.out.now)) c.in-Failed.ensures.offered refl)
+
+-- ---- what a receive and the answer leave together
+
+pub returns-in_ok-core-in-Datagram-clause-bound : goal.returns-in_ok-core-in-Datagram-clause-bound
+returns-in_ok-core-in-Datagram-clause-bound g c =
+    stays-both (g.L.Link.told c.args.link.now).bound (g.L.Link.told c.receive.new.link).bound (g.L.Link.told c.answer.new.link).bound c.receive.ensures.bound c.answer.ensures.bound
+
+pub returns-in_ok-core-in-Datagram-clause-placed : goal.returns-in_ok-core-in-Datagram-clause-placed
+returns-in_ok-core-in-Datagram-clause-placed g c =
+    stays-both (g.L.Link.told c.args.link.now).placed (g.L.Link.told c.receive.new.link).placed (g.L.Link.told c.answer.new.link).placed c.receive.ensures.placed c.answer.ensures.placed
+
+pub returns-in_err-core-in-Datagram-clause-bound : goal.returns-in_err-core-in-Datagram-clause-bound
+returns-in_err-core-in-Datagram-clause-bound g c =
+    stays-both (g.L.Link.told c.args.link.now).bound (g.L.Link.told c.receive.new.link).bound (g.L.Link.told c.answer.new.link).bound c.receive.ensures.bound c.answer.ensures.bound
+
+pub returns-in_err-core-in-Datagram-clause-placed : goal.returns-in_err-core-in-Datagram-clause-placed
+returns-in_err-core-in-Datagram-clause-placed g c =
+    stays-both (g.L.Link.told c.args.link.now).placed (g.L.Link.told c.receive.new.link).placed (g.L.Link.told c.answer.new.link).placed c.receive.ensures.placed c.answer.ensures.placed
+
+pub returns-in_ok-core-in-Datagram-clause-link : goal.returns-in_ok-core-in-Datagram-clause-link
+returns-in_ok-core-in-Datagram-clause-link g c = record { later = le_more (g.L.Link.faults c.args.link.now) (g.L.Link.faults c.receive.new.link) (g.L.Link.faults c.answer.new.link) c.receive.ensures.cause.later c.answer.ensures.link; cause = λ failed. absurd cc }
+
+pub returns-in_ok-core-in-Tick-clause-bound : goal.returns-in_ok-core-in-Tick-clause-bound
+returns-in_ok-core-in-Tick-clause-bound g c =
+    stays-both (g.L.Link.told c.args.link.now).bound (g.L.Link.told c.receive.new.link).bound (g.L.Link.told c.answer-in-Tick.new.link).bound c.receive.ensures.bound c.answer-in-Tick.ensures.bound
+
+pub returns-in_ok-core-in-Tick-clause-placed : goal.returns-in_ok-core-in-Tick-clause-placed
+returns-in_ok-core-in-Tick-clause-placed g c =
+    stays-both (g.L.Link.told c.args.link.now).placed (g.L.Link.told c.receive.new.link).placed (g.L.Link.told c.answer-in-Tick.new.link).placed c.receive.ensures.placed c.answer-in-Tick.ensures.placed
+
+pub returns-in_err-core-in-Tick-clause-bound : goal.returns-in_err-core-in-Tick-clause-bound
+returns-in_err-core-in-Tick-clause-bound g c =
+    stays-both (g.L.Link.told c.args.link.now).bound (g.L.Link.told c.receive.new.link).bound (g.L.Link.told c.answer-in-Tick.new.link).bound c.receive.ensures.bound c.answer-in-Tick.ensures.bound
+
+pub returns-in_err-core-in-Tick-clause-placed : goal.returns-in_err-core-in-Tick-clause-placed
+returns-in_err-core-in-Tick-clause-placed g c =
+    stays-both (g.L.Link.told c.args.link.now).placed (g.L.Link.told c.receive.new.link).placed (g.L.Link.told c.answer-in-Tick.new.link).placed c.receive.ensures.placed c.answer-in-Tick.ensures.placed
+
+pub returns-in_ok-core-in-Tick-clause-link : goal.returns-in_ok-core-in-Tick-clause-link
+returns-in_ok-core-in-Tick-clause-link g c = record { later = le_more (g.L.Link.faults c.args.link.now) (g.L.Link.faults c.receive.new.link) (g.L.Link.faults c.answer-in-Tick.new.link) c.receive.ensures.cause.later c.answer-in-Tick.ensures.link; cause = λ failed. absurd cc }

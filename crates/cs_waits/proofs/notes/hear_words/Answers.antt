@@ -1,4 +1,4 @@
-use Rattle.std.proofs.Common.{◌<◌, length, sym, ap, ◌∙◌, arith}
+use Rattle.std.proofs.Common.{◌<◌, length, sym, ap, ◌∙◌}
 use Rattle.cs_client.proofs.Believing.{next-set}
 use Rattle.cs_waits.specs.Notes.{with_word}
 use Rattle.cs_waits.proofs.notes.hear_words.Goals as goal

@@ -1,5 +1,4 @@
 use Rattle.std.proofs.Common.{◌≡◌, ap, subst, ◌∙◌}
-use Rattle.cs_client.specs.declared.waiting.Waiting.{Waiting}
 use Rattle.cs_client.specs.Seen.{Client, PhaseFits}
 use Rattle.cs_client.specs.Waits.{waiting, waiting_kept}
 use Rattle.cs_client.proofs.Entering.{if-ok}
